@@ -5,6 +5,7 @@ use native.Mathlib.Nat.{mul-le-mul-left}
 use mathlib.Core.Bool.{Bool, true, false}
 use mathlib.Core.Path.{_≡_, refl, ap, _∙_}
 use mathlib.Core.Logic.{_⊎_, inl, inr, ⊎-elim}
+use Rattle.words.specs.Choice.{pick}
 use Rattle.words.specs.Clock.{since, due, later}
 use Rattle.words.proofs.ChoiceLaws.{pick-cases, not-both}
 use Rattle.words.proofs.ClockLaws.{since-later, ahead-falls, ahead-not-due, reached-due}
@@ -66,6 +67,18 @@ happened-slow c Requested k l = l
 happened-slow c (Armed t) k l = armed-slow c t k
 happened-slow c (Matched t) k l = tt
 
+-- no match makes a request
+pub happened-requested : (c : ℕ) (p : Phase) → happened c p ≡ Requested → p ≡ Requested
+unfolding happened armed
+happened-requested c Resting e = e
+happened-requested c Requested e = e
+happened-requested c (Armed t) e = by (due c t) e
+  where
+    by : (b : Bool) → pick b (Matched c) (Armed t) ≡ Requested → Armed t ≡ Requested
+    by true e = absurd (let z : _≡_ {A = ℕ} 0 1 = cc in omega arith)
+    by false e = e
+happened-requested c (Matched t) e = e
+
 outcome-does : (g : Group) (reference : ℕ) → Sound g → (o : Outcome) → Serves (g .motor) o → Ticked (g .motor) (outcome g reference o)
 unfolding outcome Serves SlowAtFirst firstPeriod
 outcome-does g reference s Arrived d =
@@ -80,7 +93,7 @@ serve-does Requested g s l b = outcome-does g (g .clock) s (onRequest (g .motor)
 serve-does (Armed t) g s l b = Idles refl b s
 serve-does (Matched t) g s l b = outcome-does g t s (onMatch (g .motor)) (one-step .on-match (g .motor) (s .valid))
 
-clocked-sound : (g : Group) → Sound g → Sound (clocked g)
+pub clocked-sound : (g : Group) → Sound g → Sound (clocked g)
 unfolding clocked firstPeriod
 clocked-sound g s = record { valid = s .valid; slow = happened-slow _ (g .phase) _ (s .slow); longest = s .longest; shortest = s .shortest }
 
@@ -204,3 +217,37 @@ tick-status g = tick-by (λ (h : Group). bound (h .phase) ≡ true → h .status
     by : (reference : ℕ) (o : Outcome) → bound ((outcome (clocked g) reference o) .phase) ≡ true → (outcome (clocked g) reference o) .status ≡ g .status
     by reference Arrived b = absurd (not-both b refl)
     by reference (Step w k) b = refl
+
+-- no tick makes a request: one that is left was there, of a group that is not enabled
+armed-not-requested : (c t : ℕ) → armed c t ≡ Requested → ⊥
+unfolding armed
+armed-not-requested c t e = by (due c t) e
+  where
+    by : (b : Bool) → pick b (Matched c) (Armed t) ≡ Requested → ⊥
+    by true e = let z : _≡_ {A = ℕ} 0 1 = cc in omega arith
+    by false e = let z : _≡_ {A = ℕ} 0 1 = cc in omega arith
+
+outcome-not-requested : (g : Group) (reference : ℕ) (o : Outcome) → (outcome g reference o) .phase ≡ Requested → ⊥
+unfolding outcome
+outcome-not-requested g reference Arrived e = let z : _≡_ {A = ℕ} 0 1 = cc in omega arith
+outcome-not-requested g reference (Step w k) e = armed-not-requested _ _ e
+
+serve-not-requested : (p : Phase) (g : Group) → g .phase ≡ p → (serve p g) .phase ≡ Requested → ⊥
+unfolding serve
+serve-not-requested Resting g q e = let z : _≡_ {A = ℕ} 0 1 = cc in omega arith
+serve-not-requested Requested g q e = outcome-not-requested g _ _ e
+serve-not-requested (Armed t) g q e = let z : _≡_ {A = ℕ} 0 1 = cc in omega arith
+serve-not-requested (Matched t) g q e = outcome-not-requested g _ _ e
+
+pub tick-requested : (g : Group) → (tick g) .phase ≡ Requested → (g .enabled ≡ false) × (g .phase ≡ Requested)
+unfolding tick clocked
+tick-requested g =
+    pick-cases (λ (h : Group). h .phase ≡ Requested → (g .enabled ≡ false) × (g .phase ≡ Requested)) (g .enabled)
+    (λ a e. absurd (serve-not-requested ((clocked g) .phase) (clocked g) refl e)) (λ a e. (a, happened-requested _ (g .phase) e))
+
+-- a run ends only where its group is enabled
+pub tick-rests : (g : Group) → bound (g .phase) ≡ true → bound ((tick g) .phase) ≡ false → g .enabled ≡ true
+unfolding tick clocked
+tick-rests g b =
+    pick-cases (λ (h : Group). bound (h .phase) ≡ false → g .enabled ≡ true) (g .enabled)
+    (λ a z. a) (λ a z. absurd (not-both (happened-bound (later (g .clock) 1) (g .phase) ∙ b) z))

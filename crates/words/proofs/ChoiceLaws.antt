@@ -21,6 +21,12 @@ same-pick false f g = g refl
 pub not-both : {b : Bool} → b ≡ true → b ≡ false → ⊥
 not-both e f = let z : _≡_ {A = ℕ} 0 1 = cc in omega arith
 
+-- to show P of a question, show it of the refusal, and of what follows a yes
+pub ask-cases {κ} : {A : Type 0} (P : A → Type κ) (q : Bool) (refusal rest : A) → P refusal → (q ≡ true → P rest) → P (ask q refusal rest)
+unfolding ask
+ask-cases P true refusal rest f g = g refl
+ask-cases P false refusal rest f g = f
+
 -- a test holds if its no is absurd, and fails if its yes is
 pub holds : (b : Bool) → (b ≡ false → ⊥) → b ≡ true
 holds true f = refl

@@ -1,0 +1,15 @@
+pub mod Reset
+pub mod Access
+pub mod Look
+pub mod Frame
+pub mod Own
+pub mod Ticks
+pub mod Alone
+pub mod Tests
+pub mod Held
+pub mod Writes
+pub mod Fine
+pub mod Chain
+pub mod Begin
+pub mod Calls
+pub mod Term3

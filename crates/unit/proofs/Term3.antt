@@ -1,0 +1,236 @@
+-- Term 3, proved: `term-3`.
+use Prim.Native.Nat.{ℕ, zero, suc, _+_, _-_, _*_, _/_, _%_, _≤_, _<_}
+use native.Mathlib.Omega.{arith}
+use native.Mathlib.Nat.{eq-or-lt-of-le}
+use mathlib.Core.Bool.{Bool, true, false, _&&_}
+use mathlib.Core.List.{List, [], _∷_}
+use mathlib.Core.Path.{_≡_, refl, ap, sym, subst, _∙_}
+use mathlib.Core.Logic.{_≢_, ⊎-elim}
+use lib.Bits.{bitAnd}
+use lib.Dec.{eqb, leb}
+use lib.ListN.{take}
+use borrow.Author.Tests.{eqb-true, eqb-false, le-leb}
+use Rattle.words.specs.Choice.{ask}
+use Rattle.words.specs.Field.{bitOf}
+use Rattle.words.proofs.ChoiceLaws.{pick-cases, ask-cases, fails, tests}
+use Rattle.motor.specs.declared.Way.{Way}
+use Rattle.motor.specs.declared.Phase.{Phase}
+use Rattle.motor.specs.Group.{Group, bound}
+use Rattle.motor.specs.Group as group
+use Rattle.motor.specs.Count.{Sight, Moment, Running, NoTarget, Dark, Linked, after, Counted}
+use Rattle.motor.specs.GroupCount.{final}
+use Rattle.motor.specs.GroupCount as group-count
+use Rattle.motor.proofs.Counts.{dark}
+use Rattle.motor.proofs.Arrival.{arrives}
+use Rattle.motor.proofs.Term3.{every-count}
+use Rattle.unit.specs.declared.State.{State}
+use Rattle.unit.specs.declared.Deed.the-variants.{Parameter, Register, Request}
+use Rattle.unit.specs.declared.Verdict.{Verdict}
+use Rattle.unit.specs.declared.Verdict.the-variants.{Taken as Does, Refused as Stops}
+use Rattle.unit.specs.TheUnit.{resetState, withReg, withWords, withChannel, each, cisr, reg, status, withInitialised, withPhase, withWord, exists, cntl0, cntl1, last, stepping, reaches, isBound}
+use Rattle.unit.specs.Gate.{Place, AtRegister, AtWord, Nowhere, place, isFree, targetGood, requested, requestedOne, Asked, Yes, No, askChannels, verdictOf, askRegister, askWord, askPlace, stored, done}
+use Rattle.unit.specs.Calls.{answeredBy, writeOf}
+use Rattle.unit.specs.Moments.{Act, Writes, acts, does, through, see, isTaken, moments}
+use Rattle.unit.specs.Term3.{firstPeriod, Freed, Run, atRequest, atStart, atCount, atEnd, momentsGone, momentsNow, Cut, Term3}
+use Rattle.unit.proofs.Reset.{Sized}
+use Rattle.unit.proofs.Access.{reg-same, status-request}
+use Rattle.unit.proofs.Look.{look}
+use Rattle.unit.proofs.Own.{viewIn, view, groupIn}
+use Rattle.unit.proofs.Alone.{Alone}
+use Rattle.unit.proofs.Tests.{any-no, or-right}
+use Rattle.unit.proofs.Held.{is-free, rests-still, still-reach}
+use Rattle.unit.proofs.Writes.{masked, status-reg}
+use Rattle.unit.proofs.Fine.{Fine, fine-reset}
+use Rattle.unit.proofs.Chain.{Ahead, ahead, bound-stepping, seen, gate-place, Chained, chain}
+use Rattle.unit.proofs.Begin.{Begun, begin, set-going}
+use Rattle.unit.proofs.Calls.{Words, words-acts, words-first, fine-through}
+
+-- ---- no write sets a status bit
+
+unfoldable DarkVerdict : ℕ → State → Verdict → Type 0
+DarkVerdict c s (Does d) = status (done d s) c ≡ true → status s c ≡ true
+DarkVerdict c s (Stops n) = Unit {0}
+
+dark-question : (c : ℕ) (s : State) (q : Bool) (n : ℕ) (k : Verdict) → DarkVerdict c s k → DarkVerdict c s (ask q (Stops n) k)
+unfolding DarkVerdict
+dark-question c s q n k f = ask-cases (DarkVerdict c s) q (Stops n) k tt (λ e. f)
+
+status-phase : (c : ℕ) (s : State) (j : ℕ) (w : Way) (p : Phase) → status (withPhase s j w p) c ≡ status s c
+unfolding status withPhase withChannel reg
+status-phase c s j w p = refl
+
+status-requested : (c : ℕ) (s : State) (j r : ℕ) → status (requested s j r) c ≡ status s c
+unfolding requested
+status-requested c s j r =
+    pick-cases (λ w. status w c ≡ status s c) (eqb r 2) (λ a. status-request s j 2 c)
+    (λ a. pick-cases (λ w. status w c ≡ status s c) (eqb r 3)
+    (λ b. status-request _ j 3 c ∙ pick-cases (λ w. status w c ≡ status s c) (stepping s j) (λ t. refl) (λ t. status-phase c s j _ _)) (λ b. refl))
+
+status-requests : (c n a v : ℕ) (s : State) → status (each n a (requestedOne v) s) c ≡ status s c
+unfolding each requestedOne
+status-requests c zero a v s = refl
+status-requests c (suc n) a v s = status-requested c _ (a + n) _ ∙ status-requests c n a v s
+
+dark-asked : (c : ℕ) (s : State) (k : Asked) (a v : ℕ) → DarkVerdict c s (verdictOf k (Request a v))
+unfolding DarkVerdict verdictOf done
+dark-asked c s (Yes w) a v = λ t. sym (status-requests c 8 a v s) ∙ t
+dark-asked c s (No n) a v = tt
+
+dark-stored : (c : ℕ) (s : State) (at v : ℕ) → status (stored s at v) c ≡ true → status s c ≡ true
+unfolding stored withInitialised withChannel withWord withWords status reg
+dark-stored c s at v = pick-cases (λ (w : State). status w c ≡ true → status s c ≡ true) (eqb (at % 8) 0) (λ a t. t) (λ a t. t)
+
+dark-keep : (c v : ℕ) (s : State) → Sized s → status (withReg s cisr (bitAnd (reg s cisr) v)) c ≡ true → status s c ≡ true
+unfolding status
+dark-keep c v s z t = masked (reg s cisr) v c (sym (ap (λ x. bitOf x c) (reg-same s cisr (bitAnd (reg s cisr) v) (omega arith) z)) ∙ t)
+
+dark-place : (c : ℕ) (s : State) (p : Place) (v : ℕ) → Sized s → DarkVerdict c s (askPlace s p v)
+unfolding askPlace askRegister askWord DarkVerdict done
+dark-place c s (AtRegister i) v z =
+    pick-cases (DarkVerdict c s) (eqb i cisr) (λ a. dark-keep c v s z)
+    (λ a. let n : i ≢ cisr = eqb-false i cisr a in pick-cases (DarkVerdict c s) (leb 1 i && leb i 4)
+    (λ b. dark-question c s _ 2 (Does (Register i v)) (status-reg s i v c n))
+    (λ b. pick-cases (DarkVerdict c s) (leb 7 i && leb i 8) (λ d. dark-asked c s (askChannels 8 _ v s) _ v) (λ d. status-reg s i v c n)))
+dark-place c s (AtWord j i) v z =
+    pick-cases (DarkVerdict c s) (exists j i)
+    (λ a. pick-cases (DarkVerdict c s) (eqb i 3 && stepping s j)
+    (λ b. dark-question c s (targetGood s j v) 9 (Does (Parameter (8 * j + i) v)) (dark-stored c s (8 * j + i) v))
+    (λ b. dark-question c s (isFree s j) 2 (Does (Parameter (8 * j + i) v)) (dark-stored c s (8 * j + i) v)))
+    (λ a t. t)
+dark-place c s Nowhere v z = tt
+
+dark-answer : (c : ℕ) (s : State) (k : Verdict) → DarkVerdict c s k → status ((answeredBy k s) .state) c ≡ true → status s c ≡ true
+unfolding answeredBy DarkVerdict
+dark-answer c s (Does d) f t = f t
+dark-answer c s (Stops n) f t = t
+
+write-dark : (c a v : ℕ) (s : State) → Sized s → status ((writeOf s a v) .state) c ≡ true → status s c ≡ true
+unfolding writeOf
+write-dark c a v s z =
+    subst (λ k. status ((answeredBy k s) .state) c ≡ true → status s c ≡ true) (sym (gate-place s a v)) (dark-answer c s (askPlace s (place a) v) (dark-place c s (place a) v z))
+
+-- ---- the arrival frees the group
+
+freed-member : (c : ℕ) (s : State) → Ahead c s → stepping s c ≡ false → (j : ℕ) → c ≤ j → j ≤ last s c → isBound s j ≡ false
+unfolding isBound
+freed-member c s a g j x y = rw (own) (any-no (reaches s j) none 16 0)
+  where
+    own : stepping s j ≡ false
+    own = ⊎-elim (λ e. subst (λ k. stepping s k ≡ false) e g) (λ l. rests-still s j (a .alone .rest j l y)) (eq-or-lt-of-le x)
+
+    none : (p : ℕ) → reaches s j p ≡ false
+    none p = by (eqb c p) refl
+      where
+        by : (b : Bool) → eqb c p ≡ b → reaches s j p ≡ false
+        by true t = still-reach s j p (subst (λ k. stepping s k ≡ false) (eqb-true c p t) g)
+        by false t = a .alone .apart j x y p (eqb-false c p t)
+
+-- CURRENT_POSITION of a channel is a parameter word
+position-place : (c : ℕ) → c < 16 → place (0xf04 + 16 * c) ≡ AtWord c 2
+unfolding place
+position-place c h =
+    let e : (0xf04 + 16 * c) % 2 ≡ 0 = omega arith in
+    let q : (0xf04 + 16 * c - 0xf00) / 16 ≡ c = omega arith in
+    let r : (0xf04 + 16 * c - 0xf00) % 16 / 2 ≡ 2 = omega arith in
+    rw (e, fails (leb (0xf04 + 16 * c) 0xe20) (λ t. omega (arith, tests)), le-leb 0xe0a (0xf04 + 16 * c) (omega arith), le-leb 0xf00 (0xf04 + 16 * c) (omega arith), le-leb (0xf04 + 16 * c) 0xffe (omega arith), q, r)
+
+free-writable : (c : ℕ) (s : State) (v : ℕ) → isFree s c ≡ true → isTaken ((answeredBy (askWord s c 2 v) s) .answer) ≡ true
+unfolding askWord exists isTaken answeredBy ask
+free-writable c s v e = rw (or-right (leb 14 c) true refl, e)
+
+freed : (c : ℕ) (s : State) → c < 16 → Ahead c s → isBound s c ≡ false → Freed c s
+unfolding writeOf askPlace
+freed c s h a e =
+    let g : stepping s c ≡ false = sym (bound-stepping c s (a .alone)) ∙ e in
+    record {
+      unbound = freed-member c s a g;
+      writable = λ v. subst (λ k. isTaken ((answeredBy k s) .answer) ≡ true) (sym (gate-place s (0xf04 + 16 * c) v))
+          (subst (λ p. isTaken ((answeredBy (askPlace s p v) s) .answer) ≡ true) (sym (position-place c h)) (free-writable c s v (is-free c s e (a .served g))));
+    }
+
+-- ---- a run from its request on
+
+-- a count at the same words under other names
+renamed : (p q : ℕ) (v w : Sight) (g h n m : List Moment) → p ≡ q → v ≡ w → g ≡ h → n ≡ m → Counted p v g n → Counted q w h m
+renamed p q v w g h n m a b c d x =
+    subst (λ y. Counted q w h y) d (subst (λ y. Counted q w y n) c (subst (λ y. Counted q y g n) b (subst (λ y. Counted y v g n) a x)))
+
+first-period : (c : ℕ) (s : State) → firstPeriod c s ≡ group.firstPeriod ((view s c) .group)
+unfolding firstPeriod group.firstPeriod view viewIn groupIn look cntl0 cntl1
+first-period c s = refl
+
+group-bound : (c : ℕ) (s : State) → Alone c s → isBound s c ≡ true → bound ((view s c) .group .phase) ≡ true
+unfolding view viewIn groupIn look stepping
+group-bound c s a e = sym (bound-stepping c s a) ∙ e
+
+run-counted : (c : ℕ) (s : State) (gone now : List Act) → Begun c s → Running (moments c s gone) → isBound (through s gone) c ≡ true
+    → Running (moments c (through s gone) now) → NoTarget (moments c (through s gone) now)
+    → Counted (firstPeriod c (through s gone)) (see c s) (moments c s gone) (moments c (through s gone) now)
+run-counted c s gone now b run e run′ free =
+    let t : State = through s gone in
+    let x : Chained c s gone = chain c gone s (ahead c s (b .held)) run in
+    let y : Chained c t now = chain c now t (x .ahead) run′ in
+    let g : Group = (view s c) .group in
+    let h : Group = final g (x .acts) in
+    let same : moments c t now ≡ group-count.moments h (y .acts) = y .same ∙ ap (λ z. group-count.moments z (y .acts)) (x .end) in
+    let up : bound (h .phase) ≡ true = ap (λ (z : Group). bound (z .phase)) (sym (x .end)) ∙ group-bound c t (x .ahead .alone) e in
+    renamed (group.firstPeriod h) (firstPeriod c t) (group-count.see g) (see c s) (group-count.moments g (x .acts)) (moments c s gone) (group-count.moments h (y .acts)) (moments c t now)
+    (ap group.firstPeriod (sym (x .end)) ∙ sym (first-period c t)) (sym (seen c s (ahead c s (b .held)))) (sym (x .same)) (sym same)
+    (every-count .counted g (x .acts) (y .acts) (set-going c s b) (x .fair) (subst (λ z. group-count.Fair z (y .acts)) (x .end) (y .fair)) (subst Running (x .same) run) up (subst Running same run′) (subst NoTarget same free))
+
+run-dark : (c : ℕ) (s : State) (gone : List Act) → Begun c s → Running (moments c s gone) → Dark (moments c s gone)
+run-dark c s gone b run =
+    let x : Chained c s gone = chain c gone s (ahead c s (b .held)) run in
+    subst Dark (sym (x .same)) (dark ((view s c) .group) (x .acts) (x .fair))
+
+after-moments : (c : ℕ) (s : State) (xs : List Act) → after (see c s) (moments c s xs) ≡ see c (through s xs)
+unfolding after moments through
+after-moments c s [] = refl
+after-moments c s (x ∷ xs) = after-moments c (does x s) xs
+
+linked : (c : ℕ) (s : State) (xs : List Act) → Linked (see c s) (moments c s xs)
+unfolding Linked moments
+linked c s [] = tt
+linked c s (x ∷ xs) = (refl, linked c (does x s) xs)
+
+take-moments : (k c : ℕ) (s : State) (xs : List Act) → take k (moments c s xs) ≡ moments c s (take k xs)
+unfolding moments
+take-moments zero c s xs = refl
+take-moments (suc k) c s [] = refl
+take-moments (suc k) c s (x ∷ xs) = rw (take-moments k c (does x s) xs)
+
+-- ---- a cut of a history
+
+started : (r : Run) → Cut r → Fine (atRequest r)
+started r k = fine-through (r .before) resetState (words-first (r .before) _ (subst Words (k .whole) (words-acts (r .calls) (k .typed)))) fine-reset
+
+begun : (r : Run) → Cut r → Begun (r .c) (atStart r)
+begun r k = begin (r .c) (r .a) (r .v) (atRequest r) (started r k) (k .starts)
+
+counts : (r : Run) → Cut r → Running (momentsNow r) → NoTarget (momentsNow r) → Counted (firstPeriod (r .c) (atCount r)) (see (r .c) (atStart r)) (momentsGone r) (momentsNow r)
+counts r k run free = run-counted (r .c) (atStart r) (r .gone) (r .now) (begun r k) (k .running) (k .bound) run free
+
+frees : (r : Run) → Cut r → Running (momentsNow r) → NoTarget (momentsNow r) → isBound (atEnd r) (r .c) ≡ false → Freed (r .c) (atEnd r)
+frees r k run free e =
+    let x : Chained (r .c) (atStart r) (r .gone) = chain (r .c) (r .gone) (atStart r) (ahead (r .c) (atStart r) (begun r k .held)) (k .running) in
+    let y : Chained (r .c) (atCount r) (r .now) = chain (r .c) (r .now) (atCount r) (x .ahead) run in
+    freed (r .c) (atEnd r) (omega (arith, begun r k .held .seen .within)) (y .ahead) e
+
+darkens : (r : Run) → Cut r → Dark (moments (r .c) (atRequest r) (Writes (r .a) (r .v) ∷ r .gone))
+unfolding moments Dark does see
+darkens r k = (λ b e. write-dark (r .c) (r .a) (r .v) (atRequest r) (started r k .sized) e, run-dark (r .c) (atStart r) (r .gone) (begun r k) (k .running))
+
+pub term-3 : Term3
+term-3 =
+    record {
+      counted = counts;
+      freed = frees;
+      dark = darkens;
+      arrives = λ r k on u enough.
+          arrives (firstPeriod (r .c) (atCount r)) (see (r .c) (atStart r)) (momentsGone r) (momentsNow r)
+          (subst (λ v. Linked v (momentsNow r)) (sym (after-moments (r .c) (atStart r) (r .gone))) (linked (r .c) (atCount r) (r .now)))
+          (λ n run free. let e : take n (momentsNow r) ≡ moments (r .c) (atCount r) (take n (r .now)) = take-moments n (r .c) (atCount r) (r .now) in
+          subst (λ ms. Counted (firstPeriod (r .c) (atCount r)) (see (r .c) (atStart r)) (momentsGone r) ms) (sym e)
+          (run-counted (r .c) (atStart r) (r .gone) (take n (r .now)) (begun r k) (k .running) (k .bound) (subst Running e run) (subst NoTarget e free)))
+          on u enough;
+    }

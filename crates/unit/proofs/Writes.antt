@@ -1,0 +1,302 @@
+-- Every write to a unit in which the primary c is held: it takes a target of c, or leaves all of its group but priority and status.
+use Prim.Native.Nat.{ℕ, zero, suc, _+_, _-_, _*_, _/_, _%_, _≤_, _<_}
+use native.Mathlib.Omega.{arith}
+use mathlib.Core.Bool.{Bool, true, false, _&&_, _||_}
+use mathlib.Core.Path.{_≡_, refl, ap, sym, subst, _∙_}
+use mathlib.Core.Logic.{_≢_, _⊎_, inl, inr, ⊎-elim}
+use lib.Bits.{bitAnd}
+use lib.Dec.{ltb, leb, eqb}
+use borrow.Author.Tests.{leb-true, leb-false, eqb-true, eqb-false, eq-eqb}
+use Rattle.words.specs.Choice.{pick, ask}
+use Rattle.words.specs.Field.{field, bitOf}
+use Rattle.words.proofs.ChoiceLaws.{pick-cases, ask-cases, not-both}
+use Rattle.words.proofs.FieldLaws.{bit-and, field-lt}
+use Rattle.motor.specs.Stepping.{lastPosition}
+use Rattle.motor.specs.Group.{aimed, Sound}
+use Rattle.motor.proofs.Counts.{aimed-sound}
+use Rattle.unit.specs.declared.State.{State}
+use Rattle.unit.specs.declared.Deed.the-variants.{Parameter, Register, Request}
+use Rattle.unit.specs.declared.Verdict.{Verdict}
+use Rattle.unit.specs.declared.Verdict.the-variants.{Taken, Refused}
+use Rattle.unit.specs.TheUnit.{withReg, withWords, each, cisr, hsrrOf, reg, request, enabled, status, channel, withInitialised, word, withWord, exists, target, top, last, stepping, reaches}
+use Rattle.unit.specs.Gate.{Place, AtRegister, AtWord, Nowhere, place, isFree, targetGood, requested, Asked, Yes, No, askInitialise, askStep, askChannel, andThen, askChannels, verdictOf, askRegister, askWord, askPlace, requestedOne, stored, done}
+use Rattle.unit.proofs.Reset.{Sized}
+use Rattle.unit.proofs.Access.{sized-reg, sized-word, word-same, word-other, reg-same, reg-other, hsrr-range}
+use Rattle.unit.proofs.Look.{look, look-word-far, look-initialised}
+use Rattle.unit.proofs.Own.{viewIn, view, groupIn}
+use Rattle.unit.proofs.Alone.{Fades, fades-refl, fades-word, fades-initialised, Alone, alone-fades}
+use Rattle.unit.proofs.Tests.{and-left, and-right, or-right}
+use Rattle.unit.proofs.Held.{Held, Altered, altered-by, altered-same, altered-refl, free-still, free-outside, wide-last, rests-next, AfterAsked, after-channels}
+
+-- ---- what the questions of an HSRR word say yes to is what the requests do
+
+unfoldable Asks : ℕ → ℕ → State → Asked → Type 0
+Asks r j s (Yes w) = requested s j r ≡ w
+Asks r j s (No n) = Unit {0}
+
+asks-question : (r j : ℕ) (s : State) (q : Bool) (n : ℕ) (k : Asked) → Asks r j s k → Asks r j s (ask q (No n) k)
+unfolding Asks
+asks-question r j s q n k f = ask-cases (Asks r j s) q (No n) k tt (λ e. f)
+
+channel-asks : (r j : ℕ) (s : State) → Asks r j s (askChannel r j s)
+unfolding askChannel askInitialise askStep Asks requested
+channel-asks r j s =
+    pick-cases (Asks r j s) (eqb r 2)
+    (λ a. asks-question r j s _ 2 _ (asks-question r j s _ 3 _ (asks-question r j s _ 4 _ (same 2 (eqb-true r 2 a)))))
+    (λ a. pick-cases (Asks r j s) (eqb r 3)
+    (λ b. pick-cases (Asks r j s) (stepping s j && eqb (request s j) 0) (λ t. asks-question r j s _ 3 _ (same 3 (eqb-true r 3 b)))
+    (λ t. asks-question r j s _ 2 _ (asks-question r j s _ 3 _ (asks-question r j s _ 5 _ (asks-question r j s _ 6 _ (asks-question r j s _ 7 _ (asks-question r j s _ 8 _ (asks-question r j s _ 9 _ (same 3 (eqb-true r 3 b))))))))))
+    (λ b. neither a b))
+  where
+    same : (k : ℕ) → r ≡ k → requested s j r ≡ requested s j k
+    same k e = ap (requested s j) e
+
+    neither : eqb r 2 ≡ false → eqb r 3 ≡ false → requested s j r ≡ s
+    neither a b = rw (a, b)
+
+unfoldable pub Requests : ℕ → ℕ → ℕ → State → Asked → Type 0
+Requests n a v s (Yes w) = each n a (requestedOne v) s ≡ w
+Requests n a v s (No k) = Unit {0}
+
+channels-ask-one : (n a v : ℕ) (s w : State) (k : Asked) → each n a (requestedOne v) s ≡ w → Asks (field 2 v (2 * ((a + n) % 8))) (a + n) w k → Requests (suc n) a v s k
+unfolding Requests Asks each requestedOne
+channels-ask-one n a v s w (Yes x) e f = ap (λ t. requested t (a + n) (field 2 v (2 * ((a + n) % 8)))) e ∙ f
+channels-ask-one n a v s w (No m) e f = tt
+
+pub channels-ask : (n a v : ℕ) (s : State) → Requests n a v s (askChannels n a v s)
+unfolding askChannels Requests each andThen
+channels-ask zero a v s = refl
+channels-ask (suc n) a v s = by (askChannels n a v s) (channels-ask n a v s)
+  where
+    by : (k : Asked) → Requests n a v s k → Requests (suc n) a v s (andThen k (askChannel (field 2 v (2 * ((a + n) % 8))) (a + n)))
+    by (No m) e = tt
+    by (Yes w) e = channels-ask-one n a v s w (askChannel (field 2 v (2 * ((a + n) % 8))) (a + n) w) e (channel-asks (field 2 v (2 * ((a + n) % 8))) (a + n) w)
+
+-- ---- what a verdict leaves of c
+
+unfoldable pub AfterVerdict : ℕ → State → Verdict → Type 0
+AfterVerdict c s (Taken d) = Altered c (done d s) s
+AfterVerdict c s (Refused n) = Unit {0}
+
+after-question : (c : ℕ) (s : State) (q : Bool) (n : ℕ) (k : Verdict) → (q ≡ true → AfterVerdict c s k) → AfterVerdict c s (ask q (Refused n) k)
+unfolding AfterVerdict
+after-question c s q n k f = ask-cases (AfterVerdict c s) q (Refused n) k tt f
+
+after-requests : (c a v : ℕ) (s : State) → a + 8 ≤ 16 → Held c s → AfterVerdict c s (verdictOf (askChannels 8 a v s) (Request a v))
+unfolding AfterVerdict AfterAsked Requests verdictOf done
+after-requests c a v s l h = by (askChannels 8 a v s) (channels-ask 8 a v s) (after-channels c 8 a v s l h)
+  where
+    by : (k : Asked) → Requests 8 a v s k → AfterAsked c s k → AfterVerdict c s (verdictOf k (Request a v))
+    by (No m) e f = tt
+    by (Yes w) e f = subst (λ x. Altered c x s) (sym e) f
+
+-- ---- registers
+
+-- any register but HSRR
+abbrev NotRequests : ℕ → Type 0
+NotRequests i = (i < 7) ⊎ (8 < i)
+
+request-reg : (s : State) (i v d : ℕ) → NotRequests i → request (withReg s i v) d ≡ request s d
+unfolding request
+request-reg s i v d n =
+    let k : (7 ≤ hsrrOf d) × (hsrrOf d ≤ 8) = hsrr-range d in
+    ap (λ x. field 2 x (2 * (d % 8))) (reg-other s i v (hsrrOf d) (λ e. ⊎-elim (λ a. omega arith) (λ a. omega arith) n))
+
+alone-reg : (c i v : ℕ) (s : State) → NotRequests i → Alone c s → Alone c (withReg s i v)
+unfolding withReg last word reaches stepping channel
+alone-reg c i v s n a = record { spans = a .spans; apart = a .apart; rest = a .rest; calm = λ j x y. request-reg s i v j n ∙ a .calm j x y }
+
+register-altered : (c i v : ℕ) (s : State) → Held c s → NotRequests i → (status (withReg s i v) c ≡ true → status s c ≡ true) → Altered c (withReg s i v) s
+unfolding look withReg word channel
+register-altered c i v s h n d =
+    altered-by c (withReg s i v) s h (sized-reg s i v (h .sized)) (alone-reg c i v s n (h .alone)) refl (inl (request-reg s i v c n)) d
+
+-- one that is not CISR leaves the status bits
+pub status-reg : (s : State) (i v c : ℕ) → i ≢ cisr → status (withReg s i v) c ≡ true → status s c ≡ true
+unfolding status
+status-reg s i v c n t = sym (ap (λ x. bitOf x c) (reg-other s i v cisr (λ e. n (sym e)))) ∙ t
+
+-- a bit of a word that was masked was set before
+one-and : (x y : ℕ) → x < 2 → bitAnd x y ≡ 1 → x ≡ 1
+one-and zero y h e = absurd (let z : _≡_ {A = ℕ} 0 1 = e in omega arith)
+one-and (suc zero) y h e = refl
+one-and (suc (suc x)) y h e = absurd (omega arith)
+
+pub masked : (x v c : ℕ) → bitOf (bitAnd x v) c ≡ true → bitOf x c ≡ true
+unfolding bitOf
+masked x v c t =
+    eq-eqb (field 1 x c) 1 (one-and (field 1 x c) (field 1 v c) (field-lt 1 x c) (sym (bit-and x v c) ∙ eqb-true (field 1 (bitAnd x v) c) 1 t))
+
+keep-altered : (c v : ℕ) (s : State) → Held c s → Altered c (withReg s cisr (bitAnd (reg s cisr) v)) s
+unfolding status
+keep-altered c v s h =
+    register-altered c cisr _ s h (inr (omega arith))
+    (λ t. masked (reg s cisr) v c (sym (ap (λ x. bitOf x c) (reg-same s cisr (bitAnd (reg s cisr) v) (omega arith) (h .sized))) ∙ t))
+
+write-register : (c i v : ℕ) (s : State) → i ≤ 11 → Held c s → AfterVerdict c s (askRegister s i v)
+unfolding askRegister AfterVerdict done
+write-register c i v s l h =
+    pick-cases (AfterVerdict c s) (eqb i cisr) (λ a. keep-altered c v s h)
+    (λ a. let n : i ≢ cisr = eqb-false i cisr a in pick-cases (AfterVerdict c s) (leb 1 i && leb i 4)
+    (λ b. let m : i ≤ 4 = leb-true i 4 (and-right (leb 1 i) (leb i 4) b) in
+    after-question c s _ 2 (Taken (Register i v)) (λ q. register-altered c i v s h (inl (omega arith)) (status-reg s i v c n)))
+    (λ b. pick-cases (AfterVerdict c s) (leb 7 i && leb i 8)
+    (λ d. let m : 7 ≤ i = leb-true 7 i (and-left (leb 7 i) (leb i 8) d) in after-requests c (8 * (8 - i)) v s (omega arith) h)
+    (λ d. register-altered c i v s h (apart d) (status-reg s i v c n))))
+  where
+    apart : (leb 7 i && leb i 8) ≡ false → NotRequests i
+    apart d = by (leb 7 i) refl
+      where
+        by : (t : Bool) → leb 7 i ≡ t → NotRequests i
+        by false t = inl (omega (arith, leb-false 7 i t))
+        by true t = inr (omega (arith, leb-false i 8 (sym (ap (λ x. x && leb i 8) t) ∙ d)))
+
+-- ---- parameter words
+
+stored-at : (s : State) (j i v : ℕ) → i < 8 → stored s (8 * j + i) v ≡ pick (eqb i 0) (withInitialised (withWord s j i v) j false) (withWord s j i v)
+unfolding stored
+stored-at s j i v h =
+    let a : (8 * j + i) / 8 ≡ j = omega arith in
+    let b : (8 * j + i) % 8 ≡ i = omega arith in
+    rw (a, b)
+
+-- a word with no span leaves who reaches whom; so does the span of a group at rest
+reaches-word : (s : State) (j i v k p : ℕ) → 8 * p + 5 ≢ 8 * j + i → reaches (withWord s j i v) k p ≡ reaches s k p
+unfolding reaches last stepping channel withWord withWords
+reaches-word s j i v k p q = ap (λ w. stepping s p && (leb p k && leb k (field 4 w 0))) (word-other s j i v p 5 q)
+
+reaches-still : (s : State) (j i v k p : ℕ) → stepping s p ≡ false → reaches (withWord s j i v) k p ≡ false
+unfolding reaches stepping channel withWord withWords
+reaches-still s j i v k p h = rw h
+
+alone-word : (c j i v : ℕ) (s : State) → i < 8 → c ≢ j → (i ≢ 5) ⊎ (stepping s j ≡ false) → Alone c s → Alone c (withWord s j i v)
+unfolding last withWord withWords channel request reg
+alone-word c j i v s l n r a =
+    let e : word (withWord s j i v) c 5 ≡ word s c 5 = word-other s j i v c 5 (λ q. n (omega arith)) in
+    record {
+      spans = rw e (a .spans);
+      apart = λ k x y p m. by k p (a .apart k x (rw e at y) p m) (eqb p j) refl;
+      rest = λ k x y. a .rest k x (rw e at y);
+      calm = λ k x y. a .calm k x (rw e at y);
+    }
+  where
+    by : (k p : ℕ) → reaches s k p ≡ false → (t : Bool) → eqb p j ≡ t → reaches (withWord s j i v) k p ≡ false
+    by k p f true t =
+        ⊎-elim (λ m. reaches-word s j i v k p (λ q. m (omega (arith, eqb-true p j t))) ∙ f) (λ h. reaches-still s j i v k p (subst (λ x. stepping s x ≡ false) (sym (eqb-true p j t)) h)) r
+    by k p f false t = reaches-word s j i v k p (λ q. eqb-false p j t (omega arith)) ∙ f
+
+-- a word of another channel, which is not the one after c
+word-altered : (c j i v : ℕ) (s : State) → i < 8 → Held c s → c ≢ j → suc c ≢ j → (i ≢ 5) ⊎ (stepping s j ≡ false) → Altered c (stored s (8 * j + i) v) s
+word-altered c j i v s l h n m r =
+    let w : State = withWord s j i v in
+    let z : Sized w = sized-word s j i v (h .sized) in
+    let a : Alone c w = alone-word c j i v s l n r (h .alone) in
+    let e : look w c ≡ look s c = look-word-far s j i v c l n m in
+    let f : Fades w (withInitialised w j false) = fades-initialised w j false w (fades-refl w z) in
+    rw (stored-at s j i v l)
+    (pick-cases (λ x. Altered c x s) (eqb i 0)
+    (λ t. altered-same c (withInitialised w j false) s h (f .sized) (alone-fades c w (withInitialised w j false) f a) (look-initialised w j false c ∙ e))
+    (λ t. altered-same c w s h z a e))
+
+-- any word but the target of c
+write-word : (c j i v : ℕ) (s : State) → j < 16 → i < 8 → (j ≡ c → i ≢ 3) → Held c s → AfterVerdict c s (askWord s j i v)
+unfolding askWord AfterVerdict done
+write-word c j i v s hj l out h =
+    pick-cases (AfterVerdict c s) (exists j i)
+    (λ x. pick-cases (AfterVerdict c s) (eqb i 3 && stepping s j)
+    (λ a. let e : i ≡ 3 = eqb-true i 3 (and-left (eqb i 3) (stepping s j) a) in
+    let g : stepping s j ≡ true = and-right (eqb i 3) (stepping s j) a in
+    after-question c s _ 9 (Taken (Parameter (8 * j + i) v)) (λ q. word-altered c j i v s l h (λ m. out (sym m) e) (not-next g) (inl (λ m. omega arith))))
+    (λ a. after-question c s (isFree s j) 2 (Taken (Parameter (8 * j + i) v))
+    (λ f. word-altered c j i v s l h (own f) (next f) (inr (free-still j s f)))))
+    (λ x. altered-refl c s h)
+  where
+    not-next : stepping s j ≡ true → suc c ≢ j
+    not-next g e = not-both g (subst (λ k. stepping s k ≡ false) e (rests-next c s h))
+
+    own : isFree s j ≡ true → c ≢ j
+    own f e = free-outside c j s h f (omega arith) (subst (λ k. k ≤ last s c) e (h .alone .spans))
+
+    next : isFree s j ≡ true → suc c ≢ j
+    next f e = free-outside c j s h f (omega arith) (subst (λ k. k ≤ last s c) e (wide-last c s h))
+
+-- ---- the target of c
+
+pub record Aimed (c : ℕ) (w s : State) (t : ℕ) : Type 0 where
+  pub held : Held c w
+  pub group : (view w c) .group ≡ aimed t ((view s c) .group)
+  pub fits : t ≤ lastPosition
+
+own-target : (s : State) (c t : ℕ) → c < 16 → Sized s → (view (withWord s c 3 t) c) .group ≡ aimed t ((view s c) .group)
+unfolding view viewIn groupIn look aimed withWord withWords channel request enabled status reg
+own-target s c t h z =
+    let w : State = withWord s c 3 t in
+    let a2 : word w c 2 ≡ word s c 2 = word-other s c 3 t c 2 (omega arith) in
+    let a3 : word w c 3 ≡ t = word-same s c 3 t h (omega arith) z in
+    let a4 : word w c 4 ≡ word s c 4 = word-other s c 3 t c 4 (omega arith) in
+    let a5 : word w c 5 ≡ word s c 5 = word-other s c 3 t c 5 (omega arith) in
+    let b2 : word w (suc c) 2 ≡ word s (suc c) 2 = word-other s c 3 t (suc c) 2 (omega arith) in
+    let b3 : word w (suc c) 3 ≡ word s (suc c) 3 = word-other s c 3 t (suc c) 3 (omega arith) in
+    λ i. record { motor = record { position = a2 i; target = a3 i; rate = field 4 (a4 i) 0; top = field 4 (a5 i) 8; way = (channel s c) .way }; phase = (channel s c) .phase; clock = s .tcr1; cntl0 = b2 i; cntl1 = b3 i; enabled = enabled s c; status = status s c }
+
+aims : (c t : ℕ) (s : State) → Held c s → t ≤ lastPosition → Aimed c (withWord s c 3 t) s t
+unfolding view viewIn groupIn look withWord withWords channel request stepping reg
+aims c t s h fits =
+    let w : State = withWord s c 3 t in
+    let hc : c < 16 = omega (arith, h .seen .within) in
+    let e : (view w c) .group ≡ aimed t ((view s c) .group) = own-target s c t hc (h .sized) in
+    let f : Fades s w = fades-word s c 3 t s (omega arith) (fades-refl s (h .sized)) in
+    record {
+      held = record {
+        sized = sized-word s c 3 t (h .sized);
+        seen = record {
+          wide = rw (word-other s c 3 t c 5 (omega arith)) (h .seen .wide);
+          within = h .seen .within;
+          sound = subst Sound (sym e) (aimed-sound t ((view s c) .group) fits (h .seen .sound));
+          request = h .seen .request;
+          asking = h .seen .asking;
+          beyond = h .seen .beyond;
+        };
+        alone = alone-fades c s w f (h .alone);
+        up = h .up;
+      };
+      group = e;
+      fits = fits;
+    }
+
+unfoldable pub AfterTarget : ℕ → State → ℕ → Verdict → Type 0
+AfterTarget c s t (Taken d) = Aimed c (done d s) s t
+AfterTarget c s t (Refused n) = Unit {0}
+
+pub write-target : (c v : ℕ) (s : State) → Held c s → AfterTarget c s v (askWord s c 3 v)
+unfolding askWord AfterTarget done targetGood exists
+write-target c v s h =
+    pick-cases (AfterTarget c s v) (leb 14 c || ltb 3 6)
+    (λ x. pick-cases (AfterTarget c s v) (stepping s c)
+    (λ a. ask-cases (AfterTarget c s v) (leb v (lastPosition - top s c)) (Refused 9) (Taken (Parameter (8 * c + 3) v)) tt
+    (λ q. rw (stored-at s c 3 v (omega arith)) (aims c v s h (omega (arith, leb-true v (lastPosition - top s c) q)))))
+    (λ a. absurd (not-both (h .up) a)))
+    (λ x. absurd (not-both (or-right (leb 14 c) true refl) x))
+
+-- ---- any write
+
+-- the places that addresses have
+unfoldable pub PlaceGood : Place → Type 0
+PlaceGood (AtRegister i) = i ≤ 11
+PlaceGood (AtWord c i) = (c < 16) × (i < 8)
+PlaceGood Nowhere = Unit {0}
+
+pub place-good : (a : ℕ) → PlaceGood (place a)
+unfolding place PlaceGood
+place-good a =
+    pick-cases PlaceGood (eqb (a % 2) 0 && (leb 0xe0a a && leb a 0xe20))
+    (λ t. let h : a ≤ 0xe20 = leb-true a 0xe20 (and-right (leb 0xe0a a) (leb a 0xe20) (and-right (eqb (a % 2) 0) (leb 0xe0a a && leb a 0xe20) t)) in omega arith)
+    (λ t. pick-cases PlaceGood (eqb (a % 2) 0 && (leb 0xf00 a && leb a 0xffe))
+    (λ u. let h : a ≤ 0xffe = leb-true a 0xffe (and-right (leb 0xf00 a) (leb a 0xffe) (and-right (eqb (a % 2) 0) (leb 0xf00 a && leb a 0xffe) u)) in omega arith)
+    (λ u. tt))
+
+pub write-place : (c : ℕ) (p : Place) (v : ℕ) (s : State) → PlaceGood p → p ≢ AtWord c 3 → Held c s → AfterVerdict c s (askPlace s p v)
+unfolding askPlace AfterVerdict PlaceGood
+write-place c (AtRegister i) v s g n h = write-register c i v s g h
+write-place c (AtWord j i) v s g n h = write-word c j i v s (g .0) (g .1) (λ e q. n (λ k. AtWord (e k) (q k))) h
+write-place c Nowhere v s g n h = tt
