@@ -115,6 +115,13 @@ words-first (Ticks ∷ xs) ys w = words-first xs ys w
 words-first (Writes a v ∷ xs) ys w = (w .0, words-first xs ys (w .1))
 words-first (nothing ∷ xs) ys w = words-first xs ys w
 
+pub words-second : (xs ys : List Act) → Words (xs ++ ys) → Words ys
+unfolding Words
+words-second [] ys w = w
+words-second (Ticks ∷ xs) ys w = words-second xs ys w
+words-second (Writes a v ∷ xs) ys w = words-second xs ys (w .1)
+words-second (nothing ∷ xs) ys w = words-second xs ys w
+
 unfoldable SmallVerdict : Verdict → Type 0
 SmallVerdict (Does d) = SmallDeed d
 SmallVerdict (Stops n) = Unit {0}

@@ -12,4 +12,6 @@ pub mod Fine
 pub mod Chain
 pub mod Begin
 pub mod Calls
+pub mod Parts
+pub mod WholeSteps
 pub mod Term3

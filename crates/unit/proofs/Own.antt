@@ -186,15 +186,15 @@ view-outcome s c reference (Step w k) h z d =
 unfoldable pub NoneOrStep : ℕ → Type 0
 NoneOrStep r = (r ≡ 0) ⊎ (r ≡ 3)
 
-view-request : (s : State) (c : ℕ) → Sized s → view (withRequest s c 0) c ≡ noRequest (view s c)
+pub view-request : (s : State) (c : ℕ) → Sized s → view (withRequest s c 0) c ≡ noRequest (view s c)
 unfolding view viewIn groupIn
 view-request s c z = ap viewIn (own-request s c 0 (omega arith) z)
 
-served-none : (c : ℕ) (s : State) → request s c ≡ 0 → requestServed c s ≡ s
+pub served-none : (c : ℕ) (s : State) → request s c ≡ 0 → requestServed c s ≡ s
 unfolding requestServed
 served-none c s e = rw e
 
-served-step : (c : ℕ) (s : State) → request s c ≡ 3 → requestServed c s ≡ stepRequest ((channel s c) .phase) c (withRequest s c 0)
+pub served-step : (c : ℕ) (s : State) → request s c ≡ 3 → requestServed c s ≡ stepRequest ((channel s c) .phase) c (withRequest s c 0)
 unfolding requestServed
 served-step c s e =
     pick-cases (λ x. x ≡ stepRequest ((channel s c) .phase) c (withRequest s c 0)) (eqb (request s c) 2)
@@ -202,7 +202,7 @@ served-step c s e =
     (λ a. pick-cases (λ x. x ≡ stepRequest ((channel s c) .phase) c (withRequest s c 0)) (eqb (request s c) 3) (λ b. refl) (λ b. absurd (not-both (rw e refl) b)))
 
 -- a request that finds nothing to do
-quiet-request : (c : ℕ) (s : State) (p : Phase) → Sized s → (channel s c) .phase ≡ p → ((t : State) → stepRequest p c t ≡ t) → NoneOrStep (request s c)
+pub quiet-request : (c : ℕ) (s : State) (p : Phase) → Sized s → (channel s c) .phase ≡ p → ((t : State) → stepRequest p c t ≡ t) → NoneOrStep (request s c)
     → view (requestServed c s) c ≡ noRequest (view s c)
 unfolding NoneOrStep view viewIn look
 quiet-request c s p z e still r =

@@ -3,7 +3,7 @@ use Prim.Native.Nat.{ℕ, zero, suc, _+_, _-_, _*_, _/_, _%_, _≤_, _<_}
 use native.Mathlib.Omega.{arith}
 use native.Mathlib.Nat.{eq-or-lt-of-le}
 use mathlib.Core.Bool.{Bool, true, false, _&&_}
-use mathlib.Core.List.{List, [], _∷_}
+use mathlib.Core.List.{List, [], _∷_, _++_}
 use mathlib.Core.Path.{_≡_, refl, ap, sym, subst, _∙_}
 use mathlib.Core.Logic.{_≢_, ⊎-elim}
 use lib.Bits.{bitAnd}
@@ -43,7 +43,9 @@ use Rattle.unit.proofs.Writes.{masked, status-reg}
 use Rattle.unit.proofs.Fine.{Fine, fine-reset}
 use Rattle.unit.proofs.Chain.{Ahead, ahead, bound-stepping, seen, gate-place, Chained, chain}
 use Rattle.unit.proofs.Begin.{Begun, begin, set-going}
-use Rattle.unit.proofs.Calls.{Words, words-acts, words-first, fine-through}
+use Rattle.unit.proofs.Calls.{Words, words-acts, words-first, words-second, fine-through}
+use Rattle.unit.proofs.WholeSteps.{whole-steps}
+use Rattle.unit.specs.OneStep.{WholeSteps}
 
 -- ---- no write sets a status bit
 
@@ -210,6 +212,16 @@ begun r k = begin (r .c) (r .a) (r .v) (atRequest r) (started r k) (k .starts)
 counts : (r : Run) → Cut r → Running (momentsNow r) → NoTarget (momentsNow r) → Counted (firstPeriod (r .c) (atCount r)) (see (r .c) (atStart r)) (momentsGone r) (momentsNow r)
 counts r k run free = run-counted (r .c) (atStart r) (r .gone) (r .now) (begun r k) (k .running) (k .bound) run free
 
+wholes : (r : Run) → Cut r → Running (momentsNow r) → WholeSteps (r .c) (atCount r) (r .now)
+unfolding through
+wholes r k run =
+    let b : Begun (r .c) (atStart r) = begun r k in
+    let x : Chained (r .c) (atStart r) (r .gone) = chain (r .c) (r .gone) (atStart r) (ahead (r .c) (atStart r) (b .held)) (k .running) in
+    let w : Words (Writes (r .a) (r .v) ∷ (r .gone ++ (r .now ++ r .rest))) = words-second (r .before) _ (subst Words (k .whole) (words-acts (r .calls) (k .typed))) in
+    let f : Fine (atStart r) = fine-through (Writes (r .a) (r .v) ∷ []) (atRequest r) (words-first (Writes (r .a) (r .v) ∷ []) _ w) (started r k) in
+    let u : Words (r .gone ++ (r .now ++ r .rest)) = words-second (Writes (r .a) (r .v) ∷ []) _ w in
+    whole-steps (r .c) (r .now) (atCount r) (x .ahead) (fine-through (r .gone) (atStart r) (words-first (r .gone) _ u) f) (words-first (r .now) (r .rest) (words-second (r .gone) _ u)) run
+
 frees : (r : Run) → Cut r → Running (momentsNow r) → NoTarget (momentsNow r) → isBound (atEnd r) (r .c) ≡ false → Freed (r .c) (atEnd r)
 frees r k run free e =
     let x : Chained (r .c) (atStart r) (r .gone) = chain (r .c) (r .gone) (atStart r) (ahead (r .c) (atStart r) (begun r k .held)) (k .running) in
@@ -224,6 +236,7 @@ pub term-3 : Term3
 term-3 =
     record {
       counted = counts;
+      whole = wholes;
       freed = frees;
       dark = darkens;
       arrives = λ r k on u enough.

@@ -69,6 +69,18 @@ unfolding group.clocked
 matched-bound c v b =
     record { wide = b .wide; within = b .within; sound = clocked-sound (v .group) (b .sound); request = b .request; asking = λ e. b .asking (happened-requested _ (v .group .phase) e); beyond = b .beyond }
 
+-- after the clock and the matches of a tick
+pub view-matches : (c : ℕ) (s : State) → Sized s → Bound c (view s c) → view (each 16 0 matched (clocked s)) c ≡ viewMatched (viewClocked (view s c))
+view-matches c s z b =
+    let v : View = viewClocked (view s c) in
+    let w : View = viewMatched v in
+    let keeps : (y : View) → (y ≡ v) ⊎ (y ≡ w) → y .beyond ≡ Resting = λ y. ⊎-elim (λ e. ap (λ (q : View). q .beyond) e ∙ b .beyond) (λ e. ap (λ (q : View). q .beyond) e ∙ b .beyond) in
+    hits c matched sized-matched v w (λ y o j r hj n zr e. matched-stays c y (keeps y o) j r n e) (λ r zr e. view-matched r c (omega (arith, b .within)) zr ∙ ap viewMatched e)
+    16 0 (omega arith) (omega (arith, b .within)) (omega arith) (clocked s) (sized-clocked s z) (view-clocked c s)
+
+pub matches-bound : (c : ℕ) (s : State) → Sized s → Bound c (view s c) → Bound c (view (each 16 0 matched (clocked s)) c)
+matches-bound c s z b = subst (Bound c) (sym (view-matches c s z b)) (matched-bound c (view s c) b)
+
 -- after a tick
 unfoldable pub viewTicked : View → View
 viewTicked v =
@@ -84,12 +96,9 @@ view-tick c s z b =
     let zc : Sized (clocked s) = sized-clocked s z in
     let zt : Sized t = sized-each 16 0 matched sized-matched (clocked s) zc in
     let hc : c < 16 = omega (arith, b .within) in
-    let keeps : (y : View) → (y ≡ v) ⊎ (y ≡ w) → y .beyond ≡ Resting = λ y. ⊎-elim (λ e. ap (λ (q : View). q .beyond) e ∙ b .beyond) (λ e. ap (λ (q : View). q .beyond) e ∙ b .beyond) in
-    let keeps′ : (y : View) → (y ≡ w) ⊎ (y ≡ x) → y .beyond ≡ Resting = λ y. ⊎-elim (λ e. ap (λ (q : View). q .beyond) e ∙ b .beyond) (λ e. ap (λ (q : View). q .beyond) e ∙ b .beyond) in
-    let et : view t c ≡ w =
-    hits c matched sized-matched v w (λ y o j r hj n zr e. matched-stays c y (keeps y o) j r n e) (λ r zr e. view-matched r c hc zr ∙ ap viewMatched e)
-    16 0 (omega arith) (omega arith) (omega arith) (clocked s) zc (view-clocked c s) in
-    hits c served sized-served w x (λ y o j r hj n zr e. served-stays c y (keeps′ y o) j r hj hc n zr e)
+    let keeps : (y : View) → (y ≡ w) ⊎ (y ≡ x) → y .beyond ≡ Resting = λ y. ⊎-elim (λ e. ap (λ (q : View). q .beyond) e ∙ b .beyond) (λ e. ap (λ (q : View). q .beyond) e ∙ b .beyond) in
+    let et : view t c ≡ w = view-matches c s z b in
+    hits c served sized-served w x (λ y o j r hj n zr e. served-stays c y (keeps y o) j r hj hc n zr e)
     (λ r zr e. view-served c r zr (subst (Bound c) (sym e) (matched-bound c (view s c) b)) ∙ ap viewServed e)
     16 0 (omega arith) (omega arith) (omega arith) t zt et
 

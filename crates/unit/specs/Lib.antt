@@ -4,4 +4,5 @@ pub mod OneTick
 pub mod Gate
 pub mod Calls
 pub mod Moments
+pub mod OneStep
 pub mod Term3

@@ -12,6 +12,7 @@ use Rattle.unit.specs.TheUnit.{resetState, cntl0, cntl1, last, isBound}
 use Rattle.unit.specs.Gate.{advanceGood}
 use Rattle.unit.specs.Calls.{writeOf, advanceOf, lentAfter, Call, Read, run}
 use Rattle.unit.specs.Calls as calls
+use Rattle.unit.specs.OneStep.{WholeSteps}
 use Rattle.unit.specs.Moments.{Act, Ticks, Writes, acts, does, through, Typed, see, isTaken, moments, SetsGoing}
 
 -- ---- the calls and what happens are the same thing
@@ -39,7 +40,6 @@ pub record Freed (c : ℕ) (s : State) : Type 0 where
 
 -- For every list of calls from reset, every primary c and every cut of what happens in it into what came `before`, a write that
 -- sets the resting motor going, what has `gone` of its run, what is `now` counted, and the `rest`.
--- s0 is the state when the request comes, s1 right after it, s2 where the count begins.
 pub record Run : Type 0 where
   pub calls : List Call
   pub c : ℕ
@@ -81,6 +81,8 @@ pub record Term3 : Type 0 where
   -- up to the arrival or the next target taken
   pub counted : (r : Run) → Cut r → Running (momentsNow r) → NoTarget (momentsNow r)
       → Counted (firstPeriod (r .c) (atCount r)) (see (r .c) (atStart r)) (momentsGone r) (momentsNow r)
+  -- each tick is one step as under Stepping, or none
+  pub whole : (r : Run) → Cut r → Running (momentsNow r) → WholeSteps (r .c) (atCount r) (r .now)
   -- at the arrival
   pub freed : (r : Run) → Cut r → Running (momentsNow r) → NoTarget (momentsNow r) → isBound (atEnd r) (r .c) ≡ false → Freed (r .c) (atEnd r)
   -- nothing of the run before the count sets the status bit, the request included

@@ -1,0 +1,48 @@
+-- A history that meets the premises of term 3: two motors under way, a target put behind the motor, refused calls in between.
+use Prim.Native.Nat.{_+_, _*_, _≤_}
+use mathlib.Core.List.{List, [], _∷_, _++_}
+use lib.ListN.{replicate}
+use Rattle.motor.specs.Count.{Enabled, Undisturbed, ticksIn, steps, Arrives}
+use Rattle.unit.specs.Calls.{Call, Read, Write, Advance}
+use Rattle.unit.specs.Moments.{acts, see}
+use Rattle.unit.specs.Term3.{firstPeriod, Run, atStart, atCount, momentsGone, momentsNow, Cut}
+
+-- motors on channels 4, 5 and 8, 9; the second is set going to the left
+unfoldable pub setUp : List Call
+setUp =
+    Write 0xe10 0x00dd ∷ Write 0xe1e 0x0500 ∷ Write 0xe0e 0x00dd ∷ Write 0xe1c 0x0005
+    ∷ Write 0xf42 0x8421 ∷ Write 0xf40 0x0081 ∷ Write 0xf52 0x1234 ∷ Write 0xf50 0x0082
+    ∷ Write 0xf82 0x8421 ∷ Write 0xf80 0x0081 ∷ Write 0xf92 0x1234 ∷ Write 0xf90 0x0082
+    ∷ Write 0xe1a 0x0a00 ∷ Write 0xe18 0x000a ∷ Advance 1 (0 ∷ [])
+    ∷ Write 0xf44 0 ∷ Write 0xf46 10 ∷ Write 0xf48 1 ∷ Write 0xf4a 0x0305 ∷ Write 0xf54 1 ∷ Write 0xf56 8
+    ∷ Write 0xf84 20 ∷ Write 0xf86 0 ∷ Write 0xf88 1 ∷ Write 0xf8a 0x0309 ∷ Write 0xf94 1 ∷ Write 0xf96 9
+    ∷ Write 0xe18 0x0003 ∷ Advance 3 (0 ∷ 0 ∷ 0 ∷ []) ∷ []
+
+-- fourteen ticks into the run a write of word 5 is refused, and the target becomes 1, behind the motor
+unfoldable pub onTheWay : List Call
+onTheWay = Advance 14 (replicate 14 0) ∷ Write 0xf4a 0 ∷ Write 0xf46 1 ∷ []
+
+-- from that target on: a read, an advance that is refused, and eighty ticks
+unfoldable pub after : List Call
+after = Read 0xe20 ∷ Advance 4097 [] ∷ Advance 80 (replicate 80 0) ∷ []
+
+unfoldable pub history : Run
+history =
+    record {
+      calls = setUp ++ (Write 0xe1a 0x0300 ∷ (onTheWay ++ after));
+      c = 4;
+      a = 0xe1a;
+      v = 0x0300;
+      before = acts setUp;
+      gone = acts onTheWay;
+      now = acts after;
+      rest = [];
+    }
+
+-- the premises hold, and so a tick of the eighty leaves the motor standing at 1
+pub record Met : Type 0 where
+  pub cut : Cut history
+  pub enabled : Enabled (momentsGone history)
+  pub undisturbed : Undisturbed (momentsNow history)
+  pub enough : 1 + firstPeriod 4 (atCount history) * (steps (firstPeriod 4 (atCount history)) (see 4 (atStart history)) (momentsGone history) (momentsNow history) + 1) ≤ ticksIn (momentsNow history)
+  pub arrives : Arrives (firstPeriod 4 (atCount history)) (see 4 (atStart history)) (momentsGone history) (momentsNow history)
