@@ -14,7 +14,7 @@ use Rattle.words.proofs.FieldLaws.{field-set, field-apart}
 use Rattle.unit.specs.declared.Channel.{Channel}
 use Rattle.unit.specs.declared.State.{State}
 use Rattle.unit.proofs.Reset.{Sized}
-use Rattle.unit.specs.TheUnit.{idle, withWords, withReg, withTime, withPins, withChannel, each, cisr, hsrrOf, cprOf, reg, request, withRequest, enabled, status, withStatus, withPin, channel, word, withWord}
+use Rattle.unit.specs.TheUnit.{idle, withWords, withReg, withTime, withPins, withChannel, each, cisr, hsrrOf, cprOf, reg, request, withRequest, enabled, status, withStatus, withPin, channel, word, withWord, cfsrOf, function}
 
 -- ---- sizes
 
@@ -107,6 +107,10 @@ pub hsrr-range : (c : ℕ) → (7 ≤ hsrrOf c) × (hsrrOf c ≤ 8)
 unfolding hsrrOf
 hsrr-range c = omega arith
 
+cfsr-range : (c : ℕ) → cfsrOf c ≤ 4
+unfolding cfsrOf
+cfsr-range c = omega arith
+
 cpr-range : (c : ℕ) → (9 ≤ cprOf c) × (cprOf c ≤ 10)
 unfolding cprOf
 cpr-range c = omega arith
@@ -158,3 +162,14 @@ unfolding enabled withStatus
 enabled-status s c d =
     let k : (9 ≤ cprOf d) × (cprOf d ≤ 10) = cpr-range d in
     ap (λ x. not (eqb (field 2 x (2 * (d % 8))) 0)) (reg-other s cisr _ (cprOf d) (omega arith))
+
+-- the functions stand in registers 1 to 4
+pub function-reg : (s : State) (i v d : ℕ) → 4 < i → function (withReg s i v) d ≡ function s d
+unfolding function
+function-reg s i v d h =
+    let k : cfsrOf d ≤ 4 = cfsr-range d in
+    ap (λ x. field 4 x (4 * (d % 4))) (reg-other s i v (cfsrOf d) (λ e. omega arith))
+
+pub function-first : (s : State) (i v d : ℕ) → i ≡ 0 → function (withReg s i v) d ≡ function s d
+unfolding function cfsrOf
+function-first s i v d h = ap (λ x. field 4 x (4 * (d % 4))) (reg-other s i v (cfsrOf d) (λ e. omega arith))

@@ -1,9 +1,9 @@
 -- A tick sets no group going and makes no request, so no other group comes to reach a bound one.
-use Prim.Native.Nat.{ℕ, zero, suc, _+_, _≤_, _<_}
+use Prim.Native.Nat.{ℕ, zero, suc, _+_, _*_, _≤_, _<_}
 use native.Mathlib.Omega.{arith}
 use mathlib.Core.Bool.{Bool, true, false, _&&_}
 use mathlib.Core.Path.{_≡_, refl, ap, sym, subst, _∙_}
-use mathlib.Core.Logic.{_≢_}
+use mathlib.Core.Logic.{_≢_, _⊎_, inl, inr, ⊎-elim}
 use mathlib.Core.List.{List, [], _∷_}
 use lib.Dec.{eqb}
 use lib.ListN.{getD, set}
@@ -21,22 +21,25 @@ use Rattle.motor.specs.Group.{bound}
 use Rattle.motor.proofs.Counts.{unbound-rests}
 use Rattle.unit.specs.declared.Channel.{Channel}
 use Rattle.unit.specs.declared.State.{State}
-use Rattle.unit.specs.TheUnit.{idle, withReg, withTime, withPins, withChannel, each, request, withRequest, enabled, withStatus, withPin, channel, withInitialised, withLevel, withPhase, word, withWords, withWord, modCount, last, size, stepping, reaches, reg}
+use Rattle.unit.specs.TheUnit.{idle, withReg, withTime, withPins, withChannel, each, request, withRequest, enabled, withStatus, withPin, channel, withInitialised, withLevel, withPhase, word, withWords, withWord, modCount, last, size, stepping, reaches, reg, function, hsrrOf, cisr}
 use Rattle.unit.specs.Stepping.{pinOut, pinsOut, nextCount, prepared, matchSet, stepped, outcome}
 use Rattle.unit.specs.OneTick.{matchOf, matched, initialise, stepRequest, requestServed, matchServed, served, clocked, tick}
 use Rattle.unit.proofs.Reset.{Sized}
-use Rattle.unit.proofs.Access.{sized-reg, sized-time, sized-pin, sized-channel, sized-word, word-other, request-same, request-other, request-status}
+use Rattle.unit.proofs.Access.{sized-reg, sized-time, sized-pin, sized-channel, sized-word, word-other, request-same, request-other, request-status, hsrr-range, function-reg}
 use Rattle.unit.proofs.Frame.{sized-request}
 
--- from b to s: the groups' spans stay, no group is set going, no request comes
+-- from b to s: the groups' spans and functions stay, no group is set going, no request comes, no channel becomes uninitialised
 pub record Fades (b s : State) : Type 0 where
   pub sized : Sized s
   pub spans : (p : ℕ) → word s p 5 ≡ word b p 5
   pub still : (p : ℕ) → stepping s p ≡ true → stepping b p ≡ true
   pub quiet : (p : ℕ) → p < 16 → request b p ≡ 0 → request s p ≡ 0
+  pub functions : (j : ℕ) → function s j ≡ function b j
+  pub places : (p : ℕ) → stepping b p ≡ false → word s p 2 ≡ word b p 2
+  pub ready : (j : ℕ) → (channel b j) .initialised ≡ true → (channel s j) .initialised ≡ true
 
 pub fades-refl : (s : State) → Sized s → Fades s s
-fades-refl s z = record { sized = z; spans = λ p. refl; still = λ p g. g; quiet = λ p h e. e }
+fades-refl s z = record { sized = z; spans = λ p. refl; still = λ p g. g; quiet = λ p h e. e; functions = λ j. refl; places = λ p g. refl; ready = λ j e. e }
 
 -- what holds at every place of a list, after one place is set
 pub set-all {ℓ} : {A : Type ℓ} (R : ℕ → A → Type 0) (l : List A) (i : ℕ) (x d : A) → R i x → ((j : ℕ) → R j (getD l j d)) → (j : ℕ) → R j (getD (set l i x) j d)
@@ -47,40 +50,48 @@ set-all R (a ∷ l) (suc i) x d e h zero = h zero
 set-all R (a ∷ l) (suc i) x d e h (suc j) = set-all (λ k. R (suc k)) l i x d e (λ k. h (suc k)) j
 
 module _ (b : State) where
-  fades-channel : (j : ℕ) (x : Channel) (s : State) → (bound (x .phase) ≡ true → stepping b j ≡ true) → Fades b s → Fades b (withChannel s j x)
-  unfolding stepping channel withChannel word request reg
-  fades-channel j x s h f =
-      record { sized = sized-channel s j x (f .sized); spans = f .spans; still = set-all (λ p (y : Channel). bound (y .phase) ≡ true → stepping b p ≡ true) (s .channels) j x idle h (f .still); quiet = f .quiet }
+  fades-channel : (j : ℕ) (x : Channel) (s : State) → (bound (x .phase) ≡ true → stepping b j ≡ true) → ((channel b j) .initialised ≡ true → x .initialised ≡ true) → Fades b s → Fades b (withChannel s j x)
+  unfolding stepping channel withChannel word request function reg
+  fades-channel j x s h r f =
+      record { sized = sized-channel s j x (f .sized); spans = f .spans; still = set-all (λ p (y : Channel). bound (y .phase) ≡ true → stepping b p ≡ true) (s .channels) j x idle h (f .still); quiet = f .quiet; functions = f .functions; places = f .places; ready = set-all (λ p (y : Channel). (channel b p) .initialised ≡ true → y .initialised ≡ true) (s .channels) j x idle r (f .ready) }
 
   fades-level : (j : ℕ) (on : Bool) (s : State) → Fades b s → Fades b (withLevel s j on)
   unfolding withLevel stepping
-  fades-level j on s f = fades-channel j _ s (f .still j) f
+  fades-level j on s f = fades-channel j _ s (f .still j) (f .ready j) f
 
-  pub fades-initialised : (j : ℕ) (on : Bool) (s : State) → Fades b s → Fades b (withInitialised s j on)
+  fades-initialised : (j : ℕ) (s : State) → Fades b s → Fades b (withInitialised s j true)
   unfolding withInitialised stepping
-  fades-initialised j on s f = fades-channel j _ s (f .still j) f
+  fades-initialised j s f = fades-channel j _ s (f .still j) (λ e. refl) f
 
   -- the phase of a group that was going
   fades-phase : (j : ℕ) (w : Way) (p : Phase) (s : State) → stepping b j ≡ true → Fades b s → Fades b (withPhase s j w p)
   unfolding withPhase
-  fades-phase j w p s g f = fades-channel j _ s (λ e. g) f
+  fades-phase j w p s g f = fades-channel j _ s (λ e. g) (f .ready j) f
 
-  pub fades-word : (j i v : ℕ) (s : State) → i ≤ 4 → Fades b s → Fades b (withWord s j i v)
-  unfolding withWord withWords stepping channel request reg
-  fades-word j i v s h f = record { sized = sized-word s j i v (f .sized); spans = λ p. word-other s j i v p 5 (omega arith) ∙ f .spans p; still = f .still; quiet = f .quiet }
+  -- a word that is no span, and CURRENT_POSITION only of a group that was going
+  pub fades-word : (j i v : ℕ) (s : State) → i ≤ 4 → (i ≢ 2) ⊎ (stepping b j ≡ true) → Fades b s → Fades b (withWord s j i v)
+  unfolding withWord withWords stepping channel request function reg
+  fades-word j i v s h o f =
+      record { sized = sized-word s j i v (f .sized); spans = λ p. word-other s j i v p 5 (omega arith) ∙ f .spans p; still = f .still; quiet = f .quiet; functions = f .functions; places = λ p g. word-other s j i v p 2 (elsewhere p g) ∙ f .places p g; ready = f .ready }
+    where
+      elsewhere : (p : ℕ) → stepping b p ≡ false → 8 * p + 2 ≢ 8 * j + i
+      elsewhere p g q = ⊎-elim (λ n. n (omega arith)) (λ e. not-both e (subst (λ k. stepping b k ≡ false) (same p q) g)) o
+        where
+          same : (p : ℕ) → 8 * p + 2 ≡ 8 * j + i → p ≡ j
+          same p q = omega arith
 
   fades-pin : (j : ℕ) (on : Bool) (s : State) → Fades b s → Fades b (withPin s j on)
-  unfolding withPin withPins stepping channel request reg word
-  fades-pin j on s f = record { sized = sized-pin s j on (f .sized); spans = f .spans; still = f .still; quiet = f .quiet }
+  unfolding withPin withPins stepping channel request function reg word
+  fades-pin j on s f = record { sized = sized-pin s j on (f .sized); spans = f .spans; still = f .still; quiet = f .quiet; functions = f .functions; places = f .places; ready = f .ready }
 
   fades-status : (j : ℕ) (s : State) → Fades b s → Fades b (withStatus s j)
   unfolding withStatus withReg stepping channel word
-  fades-status j s f = record { sized = sized-reg s _ _ (f .sized); spans = f .spans; still = f .still; quiet = λ p h e. request-status s j p ∙ f .quiet p h e }
+  fades-status j s f = record { sized = sized-reg s _ _ (f .sized); spans = f .spans; still = f .still; quiet = λ p h e. request-status s j p ∙ f .quiet p h e; functions = λ d. function-reg s cisr _ d (omega arith) ∙ f .functions d; places = f .places; ready = f .ready }
 
   fades-request : (j : ℕ) (s : State) → j < 16 → Fades b s → Fades b (withRequest s j 0)
   unfolding withRequest withReg stepping channel word
   fades-request j s h f =
-      record { sized = sized-request s j 0 (f .sized); spans = f .spans; still = f .still; quiet = λ p l e. by p l e (eqb p j) refl }
+      record { sized = sized-request s j 0 (f .sized); spans = f .spans; still = f .still; quiet = λ p l e. by p l e (eqb p j) refl; functions = λ d. function-reg s (hsrrOf j) _ d (omega (arith, hsrr-range j)) ∙ f .functions d; places = f .places; ready = f .ready }
     where
       by : (p : ℕ) → p < 16 → request b p ≡ 0 → (t : Bool) → eqb p j ≡ t → request (withRequest s j 0) p ≡ 0
       by p l e true t = subst (λ x. request (withRequest s j 0) x ≡ 0) (sym (eqb-true p j t)) (request-same s j 0 (omega arith) (f .sized))
@@ -102,7 +113,7 @@ module _ (b : State) where
 
   fades-prepared : (w : Way) (m j : ℕ) (s : State) → Fades b s → Fades b (prepared w m j s)
   unfolding prepared
-  fades-prepared w m j s f = fades-level j _ _ (fades-word j 0 _ s (omega arith) f)
+  fades-prepared w m j s f = fades-level j _ _ (fades-word j 0 _ s (omega arith) (inl (omega arith)) f)
 
   -- a service of a group that was going
   module _ (j : ℕ) (h : j < 16) (g : stepping b j ≡ true) where
@@ -115,7 +126,7 @@ module _ (b : State) where
     fades-outcome reference Arrived s f = fades-status j _ (fades-phase j _ Resting s g f)
     fades-outcome reference (Step w k) s f =
         fades-matchSet w _ _
-        (fades-each (size s j) j (prepared w (nextCount w (modCount s j))) (spans-within s j h) (λ i t l q. fades-prepared w _ i t q) _ (fades-word j 4 _ _ (omega arith) (fades-word j 2 _ s (omega arith) f)))
+        (fades-each (size s j) j (prepared w (nextCount w (modCount s j))) (spans-within s j h) (λ i t l q. fades-prepared w _ i t q) _ (fades-word j 4 _ _ (omega arith) (inr g) (fades-word j 2 _ s (omega arith) (inr g) f)))
 
   awake : (j : ℕ) (s : State) (p : Phase) → Fades b s → (channel s j) .phase ≡ p → bound p ≡ true → stepping b j ≡ true
   unfolding stepping
@@ -150,7 +161,7 @@ module _ (b : State) where
   pub fades-requestServed : (j : ℕ) (s : State) → j < 16 → Fades b s → Fades b (requestServed j s)
   unfolding requestServed initialise
   fades-requestServed j s h f =
-      pick-cases (Fades b) (eqb (request s j) 2) (λ a. fades-status j _ (fades-initialised j true _ (fades-word j 0 _ _ (omega arith) (fades-pin j _ _ (fades-request j s h f)))))
+      pick-cases (Fades b) (eqb (request s j) 2) (λ a. fades-status j _ (fades-initialised j _ (fades-word j 0 _ _ (omega arith) (inl (omega arith)) (fades-pin j _ _ (fades-request j s h f)))))
       (λ a. pick-cases (Fades b) (eqb (request s j) 3) (λ c. fades-stepRequest j _ s _ h refl f (fades-request j s h f)) (λ c. f))
 
   pub fades-served : (j : ℕ) (s : State) → j < 16 → Fades b s → Fades b (served j s)
@@ -158,8 +169,8 @@ module _ (b : State) where
   fades-served j s h f = pick-cases (Fades b) (enabled s j) (λ a. fades-matchServed j _ s _ h refl f (fades-requestServed j s h f)) (λ a. f)
 
   pub fades-clocked : Sized b → Fades b (clocked b)
-  unfolding clocked withTime stepping channel request reg word
-  fades-clocked z = record { sized = sized-time b _ z; spans = λ p. refl; still = λ p g. g; quiet = λ p h e. e }
+  unfolding clocked withTime stepping channel request function reg word
+  fades-clocked z = record { sized = sized-time b _ z; spans = λ p. refl; still = λ p g. g; quiet = λ p h e. e; functions = λ j. refl; places = λ p g. refl; ready = λ j e. e }
 
 pub fades-tick : (s : State) → Sized s → Fades s (tick s)
 unfolding tick

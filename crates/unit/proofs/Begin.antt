@@ -180,7 +180,7 @@ module _ (c : ℕ) (s : State) (h : c < 16) (f : Fine s) (q2 : isFree s c ≡ tr
 
 -- ---- in an HSRR word
 
-unfoldable Begins : ℕ → Asked → Type 0
+unfoldable pub Begins : ℕ → Asked → Type 0
 Begins c (Yes w) = Begun c w
 Begins c (No n) = Unit {0}
 
@@ -188,7 +188,7 @@ begins-question : (c : ℕ) (q : Bool) (n : ℕ) (k : Asked) → (q ≡ true →
 unfolding Begins
 begins-question c q n k f = ask-cases (Begins c) q (No n) k tt f
 
-begin-here : (c : ℕ) (s : State) → c < 16 → Fine s → stepping s c ≡ false → Begins c (askStep s c)
+pub begin-here : (c : ℕ) (s : State) → c < 16 → Fine s → stepping s c ≡ false → Begins c (askStep s c)
 unfolding askStep Begins requested
 begin-here c s h f g =
     pick-cases (Begins c) (stepping s c && eqb (request s c) 0)
@@ -198,7 +198,7 @@ begin-here c s h f g =
     rw g (begun c s h f q2 q5 q6 q7 q8 q9)))))))))
 
 -- the requests of other channels leave its own record
-requested-other : (s : State) (j r c : ℕ) → c ≢ j → channel (requested s j r) c ≡ channel s c
+pub requested-other : (s : State) (j r c : ℕ) → c ≢ j → channel (requested s j r) c ≡ channel s c
 unfolding requested withRequest withReg channel withPhase
 requested-other s j r c n =
     pick-cases (λ w. channel w c ≡ channel s c) (eqb r 2) (λ a. refl)

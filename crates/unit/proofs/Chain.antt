@@ -80,7 +80,7 @@ tick-seen c v b g =
       beyond = b .beyond;
     }
 
-tick-held : (c : ℕ) (s : State) → Held c s → stepping (tick s) c ≡ true → Held c (tick s)
+pub tick-held : (c : ℕ) (s : State) → Held c s → stepping (tick s) c ≡ true → Held c (tick s)
 unfolding view viewIn groupIn look stepping
 tick-held c s h g =
     record {

@@ -14,4 +14,7 @@ pub mod Begin
 pub mod Calls
 pub mod Parts
 pub mod WholeSteps
+pub mod Leaves
+pub mod Shown
+pub mod Always
 pub mod Term3

@@ -61,13 +61,13 @@ unfolding CountMoves nextCount
 count-moves Right m h = refl
 count-moves Left m h = (omega arith, omega arith)
 
-count-small : (w : Way) (m : ℕ) → nextCount w m < 16
+pub count-small : (w : Way) (m : ℕ) → nextCount w m < 16
 unfolding nextCount
 count-small Right m = omega arith
 count-small Left m = omega arith
 
 -- word 4 after a step: MOD_CNT stands where it stood
-count-stands : (w4 m k : ℕ) → m < 16 → field 4 (withField 4 (withField 4 w4 8 m) 0 k) 8 ≡ m
+pub count-stands : (w4 m k : ℕ) → m < 16 → field 4 (withField 4 (withField 4 w4 8 m) 0 k) 8 ≡ m
 count-stands w4 m k h = field-above 4 (withField 4 w4 8 m) 0 k 4 8 (omega arith) ∙ field-set 4 w4 8 m ∙ mod-eq-of-lt h
 
 mod-small : (s : State) (c : ℕ) → modCount s c < 16

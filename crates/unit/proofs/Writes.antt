@@ -12,25 +12,26 @@ use Rattle.words.specs.Field.{field, bitOf}
 use Rattle.words.proofs.ChoiceLaws.{pick-cases, ask-cases, not-both}
 use Rattle.words.proofs.FieldLaws.{bit-and, field-lt}
 use Rattle.motor.specs.Stepping.{lastPosition}
-use Rattle.motor.specs.Group.{aimed, Sound}
+use Rattle.motor.specs.Group.{bound, aimed, Sound}
 use Rattle.motor.proofs.Counts.{aimed-sound}
+use Rattle.unit.specs.declared.Channel.{Channel}
 use Rattle.unit.specs.declared.State.{State}
 use Rattle.unit.specs.declared.Deed.the-variants.{Parameter, Register, Request}
 use Rattle.unit.specs.declared.Verdict.{Verdict}
 use Rattle.unit.specs.declared.Verdict.the-variants.{Taken, Refused}
-use Rattle.unit.specs.TheUnit.{withReg, withWords, each, cisr, hsrrOf, reg, request, enabled, status, channel, withInitialised, word, withWord, exists, target, top, last, stepping, reaches}
+use Rattle.unit.specs.TheUnit.{withReg, withWords, each, cisr, hsrrOf, reg, request, enabled, status, channel, withInitialised, word, withWord, exists, target, top, last, stepping, reaches, withChannel}
 use Rattle.unit.specs.Gate.{Place, AtRegister, AtWord, Nowhere, place, isFree, targetGood, requested, Asked, Yes, No, askInitialise, askStep, askChannel, andThen, askChannels, verdictOf, askRegister, askWord, askPlace, requestedOne, stored, done}
 use Rattle.unit.proofs.Reset.{Sized}
-use Rattle.unit.proofs.Access.{sized-reg, sized-word, word-same, word-other, reg-same, reg-other, hsrr-range}
+use Rattle.unit.proofs.Access.{sized-reg, sized-word, word-same, word-other, reg-same, reg-other, hsrr-range, sized-channel, channel-keeps}
 use Rattle.unit.proofs.Look.{look, look-word-far, look-initialised}
 use Rattle.unit.proofs.Own.{viewIn, view, groupIn}
-use Rattle.unit.proofs.Alone.{Fades, fades-refl, fades-word, fades-initialised, Alone, alone-fades}
+use Rattle.unit.proofs.Alone.{Fades, fades-refl, fades-word, Alone, alone-fades}
 use Rattle.unit.proofs.Tests.{and-left, and-right, or-right}
 use Rattle.unit.proofs.Held.{Held, Altered, altered-by, altered-same, altered-refl, free-still, free-outside, wide-last, rests-next, AfterAsked, after-channels}
 
 -- ---- what the questions of an HSRR word say yes to is what the requests do
 
-unfoldable Asks : ℕ → ℕ → State → Asked → Type 0
+unfoldable pub Asks : ℕ → ℕ → State → Asked → Type 0
 Asks r j s (Yes w) = requested s j r ≡ w
 Asks r j s (No n) = Unit {0}
 
@@ -38,7 +39,7 @@ asks-question : (r j : ℕ) (s : State) (q : Bool) (n : ℕ) (k : Asked) → Ask
 unfolding Asks
 asks-question r j s q n k f = ask-cases (Asks r j s) q (No n) k tt (λ e. f)
 
-channel-asks : (r j : ℕ) (s : State) → Asks r j s (askChannel r j s)
+pub channel-asks : (r j : ℕ) (s : State) → Asks r j s (askChannel r j s)
 unfolding askChannel askInitialise askStep Asks requested
 channel-asks r j s =
     pick-cases (Asks r j s) (eqb r 2)
@@ -153,7 +154,7 @@ write-register c i v s l h =
 
 -- ---- parameter words
 
-stored-at : (s : State) (j i v : ℕ) → i < 8 → stored s (8 * j + i) v ≡ pick (eqb i 0) (withInitialised (withWord s j i v) j false) (withWord s j i v)
+pub stored-at : (s : State) (j i v : ℕ) → i < 8 → stored s (8 * j + i) v ≡ pick (eqb i 0) (withInitialised (withWord s j i v) j false) (withWord s j i v)
 unfolding stored
 stored-at s j i v h =
     let a : (8 * j + i) / 8 ≡ j = omega arith in
@@ -185,6 +186,22 @@ alone-word c j i v s l n r a =
         ⊎-elim (λ m. reaches-word s j i v k p (λ q. m (omega (arith, eqb-true p j t))) ∙ f) (λ h. reaches-still s j i v k p (subst (λ x. stepping s x ≡ false) (sym (eqb-true p j t)) h)) r
     by k p f false t = reaches-word s j i v k p (λ q. eqb-false p j t (omega arith)) ∙ f
 
+sized-initialised : (s : State) (j : ℕ) (on : Bool) → Sized s → Sized (withInitialised s j on)
+unfolding withInitialised
+sized-initialised s j on z = sized-channel s j _ z
+
+-- whether a channel is initialised is no matter here
+alone-initialised : (c j : ℕ) (on : Bool) (s : State) → Alone c s → Alone c (withInitialised s j on)
+unfolding withInitialised withChannel last word request reg reaches stepping
+alone-initialised c j on s a =
+    let e : (p : ℕ) → (channel (withInitialised s j on) p) .phase ≡ (channel s p) .phase = λ p. channel-keeps (λ (y : Channel). y .phase) s j _ p refl in
+    record {
+      spans = a .spans;
+      apart = λ k x y p m. ap (λ q. bound q && (leb p k && leb k (last s p))) (e p) ∙ a .apart k x y p m;
+      rest = λ k x y. e k ∙ a .rest k x y;
+      calm = a .calm;
+    }
+
 -- a word of another channel, which is not the one after c
 word-altered : (c j i v : ℕ) (s : State) → i < 8 → Held c s → c ≢ j → suc c ≢ j → (i ≢ 5) ⊎ (stepping s j ≡ false) → Altered c (stored s (8 * j + i) v) s
 word-altered c j i v s l h n m r =
@@ -192,10 +209,9 @@ word-altered c j i v s l h n m r =
     let z : Sized w = sized-word s j i v (h .sized) in
     let a : Alone c w = alone-word c j i v s l n r (h .alone) in
     let e : look w c ≡ look s c = look-word-far s j i v c l n m in
-    let f : Fades w (withInitialised w j false) = fades-initialised w j false w (fades-refl w z) in
     rw (stored-at s j i v l)
     (pick-cases (λ x. Altered c x s) (eqb i 0)
-    (λ t. altered-same c (withInitialised w j false) s h (f .sized) (alone-fades c w (withInitialised w j false) f a) (look-initialised w j false c ∙ e))
+    (λ t. altered-same c (withInitialised w j false) s h (sized-initialised w j false z) (alone-initialised c j false w a) (look-initialised w j false c ∙ e))
     (λ t. altered-same c w s h z a e))
 
 -- any word but the target of c
@@ -245,7 +261,7 @@ aims c t s h fits =
     let w : State = withWord s c 3 t in
     let hc : c < 16 = omega (arith, h .seen .within) in
     let e : (view w c) .group ≡ aimed t ((view s c) .group) = own-target s c t hc (h .sized) in
-    let f : Fades s w = fades-word s c 3 t s (omega arith) (fades-refl s (h .sized)) in
+    let f : Fades s w = fades-word s c 3 t s (omega arith) (inl (omega arith)) (fades-refl s (h .sized)) in
     record {
       held = record {
         sized = sized-word s c 3 t (h .sized);

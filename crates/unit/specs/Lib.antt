@@ -5,4 +5,6 @@ pub mod Gate
 pub mod Calls
 pub mod Moments
 pub mod OneStep
+pub mod Leaves
+pub mod Always
 pub mod Term3

@@ -1,6 +1,8 @@
 // The timer unit: its state by value, and what its calls answer.
 ghost use mathlib.Core.Path.{_≡_};
 ghost use Rattle.unit.specs.TheUnit.{resetState};
+ghost use Rattle.unit.specs.Leaves.{WritesLeave};
+ghost use Rattle.unit.specs.Always.{Always};
 ghost use Rattle.unit.specs.Term3.{CallsAre, Term3};
 use motor::Phase;
 use motor::Way;
@@ -92,7 +94,8 @@ impl State {
     }
 }
 
-// Term 3, about every list of calls from reset, and that a list of calls does just what happens in it.
+// About every list of calls from reset: it does just what happens in it, a write leaves alone what it does not name, no motor moves
+// on a channel whose setup was skipped, and term 3.
 pub fn term_3()
-    ensures { λ r. ⌜ CallsAre × Term3 ⌝ }
+    ensures { λ r. ⌜ CallsAre × WritesLeave × Always × Term3 ⌝ }
 {}
