@@ -7,6 +7,7 @@ use mathlib.Core.Logic.{_≢_, _⊎_, inl, inr, ⊎-elim}
 use lib.Dec.{eqb, leb, ltb}
 use borrow.Author.Tests.{eqb-true, eqb-false, leb-true, leb-false}
 use Rattle.words.specs.Choice.{ask}
+use Rattle.words.specs.Clock.{later}
 use Rattle.words.specs.Field.{field, withField}
 use Rattle.words.specs.Rotation.{rotatedRight}
 use Rattle.words.proofs.ChoiceLaws.{pick-cases, ask-cases}
@@ -14,16 +15,17 @@ use Rattle.words.proofs.FieldLaws.{field-lt, field-above, field-below}
 use Rattle.words.proofs.RotationLaws.{right-none, right-next, left-next, left-is-right}
 use Rattle.motor.specs.declared.Way.{Way}
 use Rattle.motor.specs.declared.Way.the-variants.{Right, Left}
-use Rattle.motor.specs.declared.Motor.{Motor}
 use Rattle.motor.specs.declared.Phase.{Phase}
 use Rattle.motor.specs.declared.Phase.the-variants.{Resting, Requested, Armed, Matched}
 use Rattle.motor.specs.declared.Outcome.{Outcome}
 use Rattle.motor.specs.declared.Outcome.the-variants.{Arrived, Step}
 use Rattle.motor.specs.Stepping.{onRequest, onMatch}
+use Rattle.motor.specs.Group.{Group}
 use Rattle.unit.specs.declared.State.{State}
 use Rattle.unit.specs.declared.Channel.{Channel}
 use Rattle.unit.specs.TheUnit.{each, withReg, withRequest, withPhase, withChannel, withInitialised, withWord, withWords, all, cfsrOf, hsrrOf, cisr, reg, exists, top, function, channel, word, channelControl, pinControl, modCount, last, stepping}
 use Rattle.unit.specs.Stepping.{nextCount, turnedOnce}
+use Rattle.unit.specs.OneStep.{actsAt}
 use Rattle.unit.specs.OneTick.{matched, clocked, tick}
 use Rattle.unit.specs.declared.Deed.the-variants.{Parameter, Register, Request}
 use Rattle.unit.specs.declared.Verdict.{Verdict}
@@ -37,7 +39,7 @@ use Rattle.unit.proofs.Tests.{and-left, and-right, all-yes}
 use Rattle.unit.proofs.Held.{Held, free-outside}
 use Rattle.unit.proofs.Writes.{stored-at, PlaceGood}
 use Rattle.unit.proofs.Fine.{Fine, small-word}
-use Rattle.unit.proofs.Parts.{Part, part, outcomePart, phasePart, part-tick}
+use Rattle.unit.proofs.Parts.{Part, part, showPart, outcomePart, phasePart, part-tick}
 use Rattle.unit.proofs.WholeSteps.{count-small, count-stands}
 
 -- ---- a step keeps the pattern
@@ -56,22 +58,22 @@ turn-on Left x (suc m) h l n =
 unfoldable Patterned : Part → Type 0
 Patterned q = q .control ≡ rotatedRight (q .source) (field 4 (q .fourth) 8)
 
-patterned-outcome : (o : Outcome) (q : Part) → q .source ≤ 0xffff → Patterned q → Patterned (outcomePart o q)
+patterned-outcome : (b : Bool) (o : Outcome) (q : Part) → q .source ≤ 0xffff → Patterned q → Patterned (outcomePart b o q)
 unfolding Patterned outcomePart
-patterned-outcome Arrived q h p = p
-patterned-outcome (Step w k) q h p =
+patterned-outcome b Arrived q h p = p
+patterned-outcome b (Step w k) q h p =
     let m : ℕ = nextCount w (field 4 (q .fourth) 8) in
     let e : field 4 (withField 4 (withField 4 (q .fourth) 8 m) 0 k) 8 ≡ m = count-stands (q .fourth) m k (count-small w (field 4 (q .fourth) 8)) in
     rw e (pick-cases (λ x. x ≡ rotatedRight (q .source) m) (eqb m 0)
     (λ t. sym (rw (eqb-true m 0 t) (right-none (q .source))))
     (λ t. ap (turnedOnce w) p ∙ turn-on w (q .source) (field 4 (q .fourth) 8) h (field-lt 4 (q .fourth) 8) (eqb-false m 0 t)))
 
-patterned-phase : (ph : Phase) (m : Motor) (q : Part) → q .source ≤ 0xffff → Patterned q → Patterned (phasePart ph m q)
+patterned-phase : (ph : Phase) (m : Group) (q : Part) → q .source ≤ 0xffff → Patterned q → Patterned (phasePart ph m q)
 unfolding phasePart
 patterned-phase Resting m q h p = p
-patterned-phase Requested m q h p = patterned-outcome (onRequest m) q h p
+patterned-phase Requested m q h p = patterned-outcome _ (onRequest (m .motor)) q h p
 patterned-phase (Armed t) m q h p = p
-patterned-phase (Matched t) m q h p = patterned-outcome (onMatch m) q h p
+patterned-phase (Matched t) m q h p = patterned-outcome _ (onMatch (m .motor)) q h p
 
 -- ---- and words 4 keeps its zeros
 
@@ -85,27 +87,28 @@ zeros-stand w m k =
     let b : field 4 (withField 4 (withField 4 w 8 m) 0 k) 4 ≡ field 4 w 4 = field-above 4 (withField 4 w 8 m) 0 k 4 4 (omega arith) ∙ field-below 4 w 8 m 4 4 (omega arith) in
     rw (a, b)
 
-zeros-outcome : (o : Outcome) (q : Part) → Zeros q → Zeros (outcomePart o q)
+zeros-outcome : (b : Bool) (o : Outcome) (q : Part) → Zeros q → Zeros (outcomePart b o q)
 unfolding Zeros outcomePart
-zeros-outcome Arrived q z = z
-zeros-outcome (Step w k) q z = zeros-stand (q .fourth) _ k ∙ z
+zeros-outcome b Arrived q z = z
+zeros-outcome b (Step w k) q z = zeros-stand (q .fourth) _ k ∙ z
 
-zeros-phase : (ph : Phase) (m : Motor) (q : Part) → Zeros q → Zeros (phasePart ph m q)
+zeros-phase : (ph : Phase) (m : Group) (q : Part) → Zeros q → Zeros (phasePart ph m q)
 unfolding phasePart
 zeros-phase Resting m q z = z
-zeros-phase Requested m q z = zeros-outcome (onRequest m) q z
+zeros-phase Requested m q z = zeros-outcome _ (onRequest (m .motor)) q z
 zeros-phase (Armed t) m q z = z
-zeros-phase (Matched t) m q z = zeros-outcome (onMatch m) q z
+zeros-phase (Matched t) m q z = zeros-outcome _ (onMatch (m .motor)) q z
 
 -- ---- a tick
 
 -- what a step keeps of a part, a tick keeps
-tick-keeps : (P : Part → Type 0) → ((ph : Phase) (m : Motor) (q : Part) → q .source ≤ 0xffff → P q → P (phasePart ph m q))
+tick-keeps : (P : Part → Type 0) → ((b : Bool) (q : Part) → P q → P (showPart b q)) → ((ph : Phase) (m : Group) (q : Part) → q .source ≤ 0xffff → P q → P (phasePart ph m q))
     → (p j : ℕ) (s : State) → Fine s → Held p s → p ≤ j → j ≤ last s p → P (part p j s) → P (part p j (tick s))
-unfolding part
-tick-keeps P k p j s f h a b q =
+unfolding part showPart
+tick-keeps P m k p j s f h a b q =
     let v : View = view (each 16 0 matched (clocked s)) p in
-    subst P (sym (part-tick p j s h a b)) (pick-cases P (v .group .enabled) (λ t. k (v .group .phase) (v .group .motor) (part p j s) (small-word s j 1 f) q) (λ t. q))
+    let x : Bool = actsAt ((channel s p) .phase) (later (s .tcr1) 1) in
+    subst P (sym (part-tick p j s h a b)) (pick-cases P (v .group .enabled) (λ t. k (v .group .phase) (v .group) (showPart x (part p j s)) (small-word s j 1 f) (m x (part p j s) q)) (λ t. m x (part p j s) q))
 
 -- the span of a group stands in its word 5
 span-kept : (p : ℕ) (s t : State) → word t p 5 ≡ word s p 5 → spanGood s p ≡ true → spanGood t p ≡ true
@@ -114,19 +117,19 @@ span-kept p s t e k =
     subst (λ w. (otherwiseZero w && (leb 1 (field 4 w 8) && leb (field 4 w 8) 14) && (ltb p (field 4 w 0) && leb (field 4 w 0) (p + 7))) ≡ true) (sym e) k
 
 pub shown-tick : (p : ℕ) (s : State) → Fine s → Held p s → GroupShown p s → GroupShown p (tick s)
-unfolding part Patterned Zeros channelControl pinControl modCount
+unfolding part showPart Patterned Zeros channelControl pinControl modCount
 shown-tick p s f h g =
     let d : Fades s (tick s) = fades-tick s (h .sized) in
     let e : last (tick s) p ≡ last s p = same-last s (tick s) d p in
     record {
       span = span-kept p s (tick s) (d .spans p) (g .span);
-      rates = tick-keeps Zeros (λ ph m q l z. zeros-phase ph m q z) p p s f h (omega arith) (h .alone .spans) (g .rates);
+      rates = tick-keeps Zeros (λ b q z. z) (λ ph m q l z. zeros-phase ph m q z) p p s f h (omega arith) (h .alone .spans) (g .rates);
       channels = λ j a b.
           let x : ChannelShown (modCount s p) j s = g .channels j a (subst (λ k. j ≤ k) e b) in
           record {
             stepper = d .functions j ∙ x .stepper;
             initialised = d .ready j (x .initialised);
-            pattern = tick-keeps Patterned patterned-phase p j s f h a (subst (λ k. j ≤ k) e b) (x .pattern);
+            pattern = tick-keeps Patterned (λ x q z. z) patterned-phase p j s f h a (subst (λ k. j ≤ k) e b) (x .pattern);
           };
     }
 

@@ -9,7 +9,7 @@ use mathlib.Core.Logic.{_⊎_, inl, inr, ⊎-elim}
 use lib.Dec.{eqb}
 use borrow.Author.Tests.{eq-eqb, ne-eqb}
 use Rattle.words.specs.Choice.{pick}
-use Rattle.words.specs.Clock.{later}
+use Rattle.words.specs.Clock.{due, later}
 use Rattle.words.specs.Field.{field, withField, bitOf}
 use Rattle.words.proofs.FieldLaws.{field-set, field-above, field-lt}
 use Rattle.words.proofs.RotationLaws.{right-bit, left-bit}
@@ -28,18 +28,18 @@ use Rattle.motor.specs.Count.{Running}
 use Rattle.motor.proofs.OneStep.{one-step}
 use Rattle.motor.proofs.OneTick.{happened-requested, tick-clock}
 use Rattle.unit.specs.declared.State.{State}
-use Rattle.unit.specs.TheUnit.{channel, word, channelControl, pinControl, position, target, modCount, nextRate, top, last, cntl0, cntl1, enabled, motorOf}
+use Rattle.unit.specs.TheUnit.{pin, channel, word, channelControl, pinControl, position, target, modCount, nextRate, top, last, cntl0, cntl1, enabled, motorOf}
 use Rattle.unit.specs.Stepping.{nextCount, turnedOnce}
 use Rattle.unit.specs.OneTick.{tick}
 use Rattle.unit.specs.Moments.{Act, Ticks, Writes, Nothing as nothing, does, moments}
-use Rattle.unit.specs.OneStep.{CountMoves, BitsTurn, topBit, ChannelSteps, MatchIs, StepIs, ChannelKeeps, StillIs, WholeSteps}
+use Rattle.unit.specs.OneStep.{actsAt, pinAfterMatch, CountMoves, BitsTurn, topBit, ChannelSteps, MatchIs, StepIs, ChannelKeeps, StillIs, WholeSteps}
 use Rattle.unit.proofs.Look.{look}
 use Rattle.unit.proofs.Own.{View, viewIn, groupIn, view}
 use Rattle.unit.proofs.Ticks.{viewTicked, view-tick, view-matches}
 use Rattle.unit.proofs.Held.{Held}
 use Rattle.unit.proofs.Fine.{Fine, small-word}
 use Rattle.unit.proofs.Alone.{fades-tick}
-use Rattle.unit.proofs.Parts.{Part, part, outcomePart, phasePart, part-tick}
+use Rattle.unit.proofs.Parts.{Part, part, showPart, outcomePart, dueAtOnce, phasePart, part-tick}
 use Rattle.unit.proofs.Chain.{Ahead, acts, running-held}
 use Rattle.unit.proofs.Calls.{Words, fine-write}
 use Rattle.unit.proofs.Fine.{fine-tick}
@@ -75,19 +75,21 @@ unfolding modCount
 mod-small s c = field-lt 4 (word s c 4) 8
 
 -- the count and each channel of the group, where each part has been turned
-module _ (c : ℕ) (s t : State) (f : Fine s) (w : Way) (k : ℕ) where
-  counted : part c c t ≡ outcomePart (Step w k) (part c c s) → modCount t c ≡ nextCount w (modCount s c)
-  unfolding part outcomePart modCount
+module _ (c : ℕ) (s t : State) (f : Fine s) (w : Way) (k : ℕ) (acted already : Bool) where
+  counted : part c c t ≡ outcomePart already (Step w k) (showPart acted (part c c s)) → modCount t c ≡ nextCount w (modCount s c)
+  unfolding part outcomePart showPart modCount
   counted e = ap (λ (q : Part). field 4 (q .fourth) 8) e ∙ count-stands (word s c 4) (nextCount w (field 4 (word s c 4) 8)) k (count-small w (field 4 (word s c 4) 8))
 
-  channel-steps : (j : ℕ) → modCount t c ≡ nextCount w (modCount s c) → part c j t ≡ outcomePart (Step w k) (part c j s) → ChannelSteps w c j s t
-  unfolding part outcomePart channelControl pinControl modCount
-  channel-steps j m e =
+  channel-steps : (j x : ℕ) → modCount t c ≡ nextCount w (modCount s c) → due (t .tcr1) x ≡ already → actsAt ((channel s c) .phase) (t .tcr1) ≡ acted
+      → part c j t ≡ outcomePart already (Step w k) (showPart acted (part c j s)) → ChannelSteps w x c j s t
+  unfolding part outcomePart showPart channelControl pinControl modCount pinAfterMatch
+  channel-steps j x m p q e =
       record {
         source = ap (λ (q : Part). q .source) e;
         turned = λ n. subst (BitsTurn w (word s j 0)) (sym (ap (λ (q : Part). q .control) e ∙ rw (ne-eqb (nextCount w (field 4 (word s c 4) 8)) 0 (λ z. n (m ∙ z))) refl)) (bits-turn w (word s j 0) (small-word s j 0 f));
         copied = λ n. ap (λ (q : Part). q .control) e ∙ rw (eq-eqb (nextCount w (field 4 (word s c 4) 8)) 0 (sym m ∙ n)) refl;
         level = ap (λ (q : Part). q .level) e ∙ top-turn w (word s j 0) (small-word s j 0 f);
+        pin = ap (λ (y : Part). y .pin) e ∙ (λ i. pick (sym p i) (sym (ap (λ (y : Part). y .level) e) i) (pick (sym q i) ((channel s j) .level) (pin s j)));
       }
 
 -- ---- a tick of a held primary
@@ -112,17 +114,23 @@ module _ (c : ℕ) (s : State) (h : Held c s) (f : Fine s) where
   unfolding viewTicked
   ticked = ap (λ (v : View). v .group) (view-tick c s (h .sized) (h .seen))
 
+  abbrev acted : Bool
+  acted = actsAt ((channel s c) .phase) (later (s .tcr1) 1)
+
+  acted-then : actsAt ((channel s c) .phase) (t .tcr1) ≡ acted
+  acted-then = ap (actsAt ((channel s c) .phase)) time
+
   abbrev Ticked : Type 0
   Ticked = StepIs c s t ⊎ StillIs c s t
 
   -- a tick that leaves the motor, and each channel's part
-  keeps : (j : ℕ) → part c j t ≡ part c j s → ChannelKeeps j s t
-  unfolding part channelControl pinControl
-  keeps j e = record { control = ap (λ (q : Part). q .control) e; source = ap (λ (q : Part). q .source) e; level = ap (λ (q : Part). q .level) e }
+  keeps : (j : ℕ) → part c j t ≡ showPart acted (part c j s) → ChannelKeeps c j s t
+  unfolding part showPart channelControl pinControl pinAfterMatch
+  keeps j e = record { pin = ap (λ (q : Part). q .pin) e ∙ ap (λ b. pick b ((channel s j) .level) (pin s j)) (sym acted-then); control = ap (λ (q : Part). q .control) e; source = ap (λ (q : Part). q .source) e; level = ap (λ (q : Part). q .level) e }
 
   still : (x : Group) → (view t c) .group ≡ x → x .motor ≡ g .motor → (x .phase ≡ happened (later (s .tcr1) 1) ((channel s c) .phase)) ⊎ ((x .phase ≡ Resting) × (position s c ≡ target s c))
-      → ((j : ℕ) → c ≤ j → j ≤ last s c → part c j t ≡ part c j s) → Ticked
-  unfolding view viewIn groupIn look position target part
+      → ((j : ℕ) → c ≤ j → j ≤ last s c → part c j t ≡ showPart acted (part c j s)) → Ticked
+  unfolding view viewIn groupIn look position target part showPart
   still x e m p parts =
       let q : (view t c) .group .motor ≡ g .motor = ap (λ (y : Group). y .motor) e ∙ m in
       inr
@@ -137,7 +145,7 @@ module _ (c : ℕ) (s : State) (h : Held c s) (f : Fine s) where
       }
 
   -- a tick in which nothing of c is served
-  idle : (view t c) .group ≡ group.clocked g → ((j : ℕ) → c ≤ j → j ≤ last s c → part c j t ≡ part c j s) → Ticked
+  idle : (view t c) .group ≡ group.clocked g → ((j : ℕ) → c ≤ j → j ≤ last s c → part c j t ≡ showPart acted (part c j s)) → Ticked
   unfolding view viewIn groupIn look group.clocked
   idle e parts = still (group.clocked g) e refl (inl refl) parts
 
@@ -149,11 +157,12 @@ module _ (c : ℕ) (s : State) (h : Held c s) (f : Fine s) where
       record { time = x; sum = refl; set = λ q. p ∙ rw q refl; happens = λ q. p ∙ rw q refl }
 
   step-by : (reference : ℕ) (o : Outcome) → From c s t reference o → (view t c) .group ≡ group.outcome (group.clocked g) reference o
-      → ((j : ℕ) → c ≤ j → j ≤ last s c → part c j t ≡ outcomePart o (part c j s)) → Serves (motorOf s c) o → Ticked
-  unfolding Serves group.outcome group.clocked view viewIn groupIn look moved motorOf position target nextRate top outcomePart
+      → ((j : ℕ) → c ≤ j → j ≤ last s c → part c j t ≡ outcomePart (dueAtOnce (group.clocked g) reference) o (showPart acted (part c j s))) → Serves (motorOf s c) o → Ticked
+  unfolding Serves group.outcome group.clocked view viewIn groupIn look moved motorOf position target nextRate top outcomePart dueAtOnce match-is cntl0 cntl1
   step-by reference Arrived fr e parts d = still (group.outcome (group.clocked g) reference Arrived) e refl (inr (refl, d .reached)) parts
   step-by reference (Step w k) fr e parts d =
-      let m : modCount t c ≡ nextCount w (modCount s c) = counted c s t f w k (parts c (omega arith) (h .alone .spans)) in
+      let x : ℕ = later reference (period (cntl0 s c) (cntl1 s c) (nextRate s c)) in
+      let m : modCount t c ≡ nextCount w (modCount s c) = counted c s t f w k acted (dueAtOnce (group.clocked g) reference) (parts c (omega arith) (h .alone .spans)) in
       inl
       record {
         way = w;
@@ -167,7 +176,7 @@ module _ (c : ℕ) (s : State) (h : Held c s) (f : Fine s) where
         aim = ap (λ (x : Group). x .motor .target) e;
         span = fades-tick s (h .sized) .spans c;
         match = match-is reference w k e;
-        channels = λ j a b. channel-steps c s t f w k j m (parts j a b);
+        channels = λ j a b. channel-steps c s t f w k acted (dueAtOnce (group.clocked g) reference) j x m (ap (λ y. due y x) time) acted-then (parts j a b);
       }
 
   valid : Valid (motorOf s c)
@@ -180,7 +189,7 @@ module _ (c : ℕ) (s : State) (h : Held c s) (f : Fine s) where
 
   -- by what is pending after the matches
   step-phase : (p : Phase) → happened (later (s .tcr1) 1) ((channel s c) .phase) ≡ p → (view t c) .group ≡ group.serve p (group.clocked g)
-      → ((j : ℕ) → c ≤ j → j ≤ last s c → part c j t ≡ phasePart p (motorOf s c) (part c j s)) → Ticked
+      → ((j : ℕ) → c ≤ j → j ≤ last s c → part c j t ≡ phasePart p (group.clocked g) (showPart acted (part c j s))) → Ticked
   unfolding group.serve phasePart group.clocked view viewIn groupIn look motorOf position target nextRate top
   step-phase Resting q e parts = idle e parts
   step-phase Requested q e parts =
@@ -192,17 +201,18 @@ module _ (c : ℕ) (s : State) (h : Held c s) (f : Fine s) where
 
   -- the part of each channel, by the view after the matches
   parts-turned : (j : ℕ) → c ≤ j → j ≤ last s c
-      → part c j t ≡ pick (enabled s c) (phasePart (happened (later (s .tcr1) 1) ((channel s c) .phase)) (motorOf s c) (part c j s)) (part c j s)
-  unfolding view viewIn groupIn look motorOf position target nextRate top
+      → part c j t ≡ pick (enabled s c) (phasePart (happened (later (s .tcr1) 1) ((channel s c) .phase)) (group.clocked g) (showPart acted (part c j s))) (showPart acted (part c j s))
+  unfolding view viewIn groupIn look motorOf position target nextRate top group.clocked
   parts-turned j a b =
-      part-tick c j s h a b ∙ ap (λ (v : View). pick (v .group .enabled) (phasePart (v .group .phase) (v .group .motor) (part c j s)) (part c j s)) (view-matches c s (h .sized) (h .seen))
+      part-tick c j s h a b
+      ∙ ap (λ (v : View). pick (v .group .enabled) (phasePart (v .group .phase) (v .group) (showPart acted (part c j s))) (showPart acted (part c j s))) (view-matches c s (h .sized) (h .seen))
 
   tick-is : Ticked
   unfolding group.tick group.clocked view viewIn groupIn look
   tick-is = by (enabled s c) ticked parts-turned
     where
       by : (b : Bool) → (view t c) .group ≡ pick b (group.serve (happened (later (s .tcr1) 1) ((channel s c) .phase)) (group.clocked g)) (group.clocked g)
-          → ((j : ℕ) → c ≤ j → j ≤ last s c → part c j t ≡ pick b (phasePart (happened (later (s .tcr1) 1) ((channel s c) .phase)) (motorOf s c) (part c j s)) (part c j s)) → Ticked
+          → ((j : ℕ) → c ≤ j → j ≤ last s c → part c j t ≡ pick b (phasePart (happened (later (s .tcr1) 1) ((channel s c) .phase)) (group.clocked g) (showPart acted (part c j s))) (showPart acted (part c j s))) → Ticked
       by true e k = step-phase (happened (later (s .tcr1) 1) ((channel s c) .phase)) refl e k
       by false e k = idle e k
 
