@@ -33,13 +33,13 @@ pub record Fades (b s : State) : Type 0 where
   pub sized : Sized s
   pub spans : (p : ℕ) → word s p 5 ≡ word b p 5
   pub still : (p : ℕ) → stepping s p ≡ true → stepping b p ≡ true
-  pub quiet : (p : ℕ) → p < 16 → request b p ≡ 0 → request s p ≡ 0
+  pub asks : (p : ℕ) → p < 16 → (request s p ≡ 0) ⊎ (request s p ≡ request b p)
   pub functions : (j : ℕ) → function s j ≡ function b j
   pub places : (p : ℕ) → stepping b p ≡ false → word s p 2 ≡ word b p 2
   pub ready : (j : ℕ) → (channel b j) .initialised ≡ true → (channel s j) .initialised ≡ true
 
 pub fades-refl : (s : State) → Sized s → Fades s s
-fades-refl s z = record { sized = z; spans = λ p. refl; still = λ p g. g; quiet = λ p h e. e; functions = λ j. refl; places = λ p g. refl; ready = λ j e. e }
+fades-refl s z = record { sized = z; spans = λ p. refl; still = λ p g. g; asks = λ p h. inr refl; functions = λ j. refl; places = λ p g. refl; ready = λ j e. e }
 
 -- what holds at every place of a list, after one place is set
 pub set-all {ℓ} : {A : Type ℓ} (R : ℕ → A → Type 0) (l : List A) (i : ℕ) (x d : A) → R i x → ((j : ℕ) → R j (getD l j d)) → (j : ℕ) → R j (getD (set l i x) j d)
@@ -49,11 +49,15 @@ set-all R (a ∷ l) zero x d e h (suc j) = h (suc j)
 set-all R (a ∷ l) (suc i) x d e h zero = h zero
 set-all R (a ∷ l) (suc i) x d e h (suc j) = set-all (λ k. R (suc k)) l i x d e (λ k. h (suc k)) j
 
+-- so where nothing was asked nothing is
+pub quiet : (b s : State) → Fades b s → (p : ℕ) → p < 16 → request b p ≡ 0 → request s p ≡ 0
+quiet b s f p h e = ⊎-elim (λ q. q) (λ q. q ∙ e) (f .asks p h)
+
 module _ (b : State) where
   fades-channel : (j : ℕ) (x : Channel) (s : State) → (bound (x .phase) ≡ true → stepping b j ≡ true) → ((channel b j) .initialised ≡ true → x .initialised ≡ true) → Fades b s → Fades b (withChannel s j x)
   unfolding stepping channel withChannel word request function reg
   fades-channel j x s h r f =
-      record { sized = sized-channel s j x (f .sized); spans = f .spans; still = set-all (λ p (y : Channel). bound (y .phase) ≡ true → stepping b p ≡ true) (s .channels) j x idle h (f .still); quiet = f .quiet; functions = f .functions; places = f .places; ready = set-all (λ p (y : Channel). (channel b p) .initialised ≡ true → y .initialised ≡ true) (s .channels) j x idle r (f .ready) }
+      record { sized = sized-channel s j x (f .sized); spans = f .spans; still = set-all (λ p (y : Channel). bound (y .phase) ≡ true → stepping b p ≡ true) (s .channels) j x idle h (f .still); asks = f .asks; functions = f .functions; places = f .places; ready = set-all (λ p (y : Channel). (channel b p) .initialised ≡ true → y .initialised ≡ true) (s .channels) j x idle r (f .ready) }
 
   fades-level : (j : ℕ) (on : Bool) (s : State) → Fades b s → Fades b (withLevel s j on)
   unfolding withLevel stepping
@@ -72,7 +76,7 @@ module _ (b : State) where
   pub fades-word : (j i v : ℕ) (s : State) → i ≤ 4 → (i ≢ 2) ⊎ (stepping b j ≡ true) → Fades b s → Fades b (withWord s j i v)
   unfolding withWord withWords stepping channel request function reg
   fades-word j i v s h o f =
-      record { sized = sized-word s j i v (f .sized); spans = λ p. word-other s j i v p 5 (omega arith) ∙ f .spans p; still = f .still; quiet = f .quiet; functions = f .functions; places = λ p g. word-other s j i v p 2 (elsewhere p g) ∙ f .places p g; ready = f .ready }
+      record { sized = sized-word s j i v (f .sized); spans = λ p. word-other s j i v p 5 (omega arith) ∙ f .spans p; still = f .still; asks = f .asks; functions = f .functions; places = λ p g. word-other s j i v p 2 (elsewhere p g) ∙ f .places p g; ready = f .ready }
     where
       elsewhere : (p : ℕ) → stepping b p ≡ false → 8 * p + 2 ≢ 8 * j + i
       elsewhere p g q = ⊎-elim (λ n. n (omega arith)) (λ e. not-both e (subst (λ k. stepping b k ≡ false) (same p q) g)) o
@@ -82,20 +86,22 @@ module _ (b : State) where
 
   fades-pin : (j : ℕ) (on : Bool) (s : State) → Fades b s → Fades b (withPin s j on)
   unfolding withPin withPins stepping channel request function reg word
-  fades-pin j on s f = record { sized = sized-pin s j on (f .sized); spans = f .spans; still = f .still; quiet = f .quiet; functions = f .functions; places = f .places; ready = f .ready }
+  fades-pin j on s f = record { sized = sized-pin s j on (f .sized); spans = f .spans; still = f .still; asks = f .asks; functions = f .functions; places = f .places; ready = f .ready }
 
   fades-status : (j : ℕ) (s : State) → Fades b s → Fades b (withStatus s j)
   unfolding withStatus withReg stepping channel word
-  fades-status j s f = record { sized = sized-reg s _ _ (f .sized); spans = f .spans; still = f .still; quiet = λ p h e. request-status s j p ∙ f .quiet p h e; functions = λ d. function-reg s cisr _ d (omega arith) ∙ f .functions d; places = f .places; ready = f .ready }
+  fades-status j s f = record { sized = sized-reg s _ _ (f .sized); spans = f .spans; still = f .still; asks = λ p h. ⊎-elim (λ e. inl (request-status s j p ∙ e)) (λ e. inr (request-status s j p ∙ e)) (f .asks p h); functions = λ d. function-reg s cisr _ d (omega arith) ∙ f .functions d; places = f .places; ready = f .ready }
 
   fades-request : (j : ℕ) (s : State) → j < 16 → Fades b s → Fades b (withRequest s j 0)
   unfolding withRequest withReg stepping channel word
   fades-request j s h f =
-      record { sized = sized-request s j 0 (f .sized); spans = f .spans; still = f .still; quiet = λ p l e. by p l e (eqb p j) refl; functions = λ d. function-reg s (hsrrOf j) _ d (omega (arith, hsrr-range j)) ∙ f .functions d; places = f .places; ready = f .ready }
+      record { sized = sized-request s j 0 (f .sized); spans = f .spans; still = f .still; asks = λ p l. by p l (eqb p j) refl; functions = λ d. function-reg s (hsrrOf j) _ d (omega (arith, hsrr-range j)) ∙ f .functions d; places = f .places; ready = f .ready }
     where
-      by : (p : ℕ) → p < 16 → request b p ≡ 0 → (t : Bool) → eqb p j ≡ t → request (withRequest s j 0) p ≡ 0
-      by p l e true t = subst (λ x. request (withRequest s j 0) x ≡ 0) (sym (eqb-true p j t)) (request-same s j 0 (omega arith) (f .sized))
-      by p l e false t = request-other s j 0 p h l (eqb-false p j t) (f .sized) ∙ f .quiet p l e
+      by : (p : ℕ) → p < 16 → (t : Bool) → eqb p j ≡ t → (request (withRequest s j 0) p ≡ 0) ⊎ (request (withRequest s j 0) p ≡ request b p)
+      by p l true t = inl (subst (λ x. request (withRequest s j 0) x ≡ 0) (sym (eqb-true p j t)) (request-same s j 0 (omega arith) (f .sized)))
+      by p l false t =
+          let e : request (withRequest s j 0) p ≡ request s p = request-other s j 0 p h l (eqb-false p j t) (f .sized) in
+          ⊎-elim (λ q. inl (e ∙ q)) (λ q. inr (e ∙ q)) (f .asks p l)
 
   pub fades-each : (n a : ℕ) (f : ℕ → State → State) → a + n ≤ 16 → ((j : ℕ) (s : State) → j < 16 → Fades b s → Fades b (f j s)) → (s : State) → Fades b s → Fades b (each n a f s)
   unfolding each
@@ -170,7 +176,7 @@ module _ (b : State) where
 
   pub fades-clocked : Sized b → Fades b (clocked b)
   unfolding clocked withTime stepping channel request function reg word
-  fades-clocked z = record { sized = sized-time b _ z; spans = λ p. refl; still = λ p g. g; quiet = λ p h e. e; functions = λ j. refl; places = λ p g. refl; ready = λ j e. e }
+  fades-clocked z = record { sized = sized-time b _ z; spans = λ p. refl; still = λ p g. g; asks = λ p h. inr refl; functions = λ j. refl; places = λ p g. refl; ready = λ j e. e }
 
 pub fades-tick : (s : State) → Sized s → Fades s (tick s)
 unfolding tick
@@ -184,7 +190,7 @@ pub record Alone (c : ℕ) (s : State) : Type 0 where
   pub rest : (j : ℕ) → c < j → j ≤ last s c → (channel s j) .phase ≡ Resting
   pub calm : (j : ℕ) → c < j → j ≤ last s c → request s j ≡ 0
 
-less-reach : (g h x : Bool) → (g ≡ true → h ≡ true) → (h && x) ≡ false → (g && x) ≡ false
+pub less-reach : (g h x : Bool) → (g ≡ true → h ≡ true) → (h && x) ≡ false → (g && x) ≡ false
 less-reach true true x i e = e
 less-reach true false x i e = absurd (not-both (i refl) refl)
 less-reach false h x i e = refl
@@ -213,5 +219,5 @@ alone-fades c b s f a =
       spans = rw e (a .spans);
       apart = λ j h i p n. less-reach (stepping s p) (stepping b p) _ (f .still p) (rw (same-last b s f p) (a .apart j h (rw e at i) p n));
       rest = λ j h i. still-rests _ _ (f .still j) (a .rest j h (rw e at i));
-      calm = λ j h i. f .quiet j (omega (arith, last-small s c)) (a .calm j h (rw e at i));
+      calm = λ j h i. quiet b s f j (omega (arith, last-small s c)) (a .calm j h (rw e at i));
     }

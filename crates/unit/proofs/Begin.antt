@@ -37,22 +37,29 @@ use Rattle.unit.proofs.Writes.{Requests, channels-ask, PlaceGood, place
 use Rattle.unit.proofs.Fine.{Fine, small-word, fine-each, fine-requested}
 use Rattle.unit.proofs.Chain.{gate-place}
 
--- ---- a free channel is reached by no group
+-- ---- a channel that is not bound is reached by no group
 
 beyond-rests : (p : ℕ) (s : State) → Sized s → 16 ≤ p → stepping s p ≡ false
 unfolding stepping channel bound
 beyond-rests p s z h = let q : length (s .channels) ≤ p = omega (arith, z .channels) in rw (List·getD-eq-default (s .channels) idle q)
 
+pub stepping-small : (p : ℕ) (s : State) → Sized s → stepping s p ≡ true → p < 16
+stepping-small p s z g = by (ltb p 16) refl
+  where
+    by : (b : Bool) → ltb p 16 ≡ b → p < 16
+    by true t = ltb-true p 16 t
+    by false t = absurd (not-both g (beyond-rests p s z (ltb-false p 16 t)))
+
 reached-stepping : (s : State) (i p : ℕ) → reaches s i p ≡ true → stepping s p ≡ true
 unfolding reaches
 reached-stepping s i p e = and-left (stepping s p) (leb p i && leb i (last s p)) e
 
-unreached : (i : ℕ) (s : State) → Sized s → isFree s i ≡ true → (p : ℕ) → reaches s i p ≡ false
+pub unreached : (i : ℕ) (s : State) → Sized s → isBound s i ≡ false → (p : ℕ) → reaches s i p ≡ false
 unfolding isBound
 unreached i s z f p = by (reaches s i p) refl
   where
     none : any 16 0 (reaches s i) ≡ false
-    none = or-none (stepping s i) (any 16 0 (reaches s i)) (free-unbound i s f) .1
+    none = or-none (stepping s i) (any 16 0 (reaches s i)) f .1
 
     small : (b : Bool) → ltb p 16 ≡ b → reaches s i p ≡ true → ⊥
     small true t e = not-both (any-yes (reaches s i) p 16 0 (omega arith) (omega (arith, ltb-true p 16 t)) e) none
@@ -165,7 +172,7 @@ module _ (c : ℕ) (s : State) (h : c < 16) (f : Fine s) (q2 : isFree s c ≡ tr
   alone-started =
       record {
         spans = omega (arith, wide);
-        apart = λ i a b p n. same-reaches i p (λ e. n (sym e)) ∙ unreached i s (f .sized) (member-free i a b) p;
+        apart = λ i a b p n. same-reaches i p (λ e. n (sym e)) ∙ unreached i s (f .sized) (free-unbound i s (member-free i a b)) p;
         rest = λ j a b. ap (λ (x : Channel). x .phase) (same-channel j (omega arith)) ∙ free-rests j s (member-free j (omega arith) b);
         calm = λ j a b. request-other resting c 3 j h (omega (arith, last-small s c)) (omega arith) (sized-phase s c _ _ (f .sized)) ∙ free-none j s (member-free j (omega arith) b);
       }
@@ -278,7 +285,7 @@ begin-place c v (AtRegister i) s ok e f g t =
     (begun-answer c s (8 * (8 - i)) v (askChannels 8 (8 * (8 - i)) v s)
     (begin-word 8 (8 * (8 - i)) c v s (omega arith) (omega arith) (omega arith) r f g) (channels-ask 8 (8 * (8 - i)) v s)) t
 
-unbound-still : (c : ℕ) (s : State) → isBound s c ≡ false → stepping s c ≡ false
+pub unbound-still : (c : ℕ) (s : State) → isBound s c ≡ false → stepping s c ≡ false
 unfolding isBound
 unbound-still c s e = or-none (stepping s c) _ e .0
 

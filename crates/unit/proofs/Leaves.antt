@@ -70,13 +70,13 @@ done-place P s a v h = rw (gate-place s a v) (done-answer P s (askPlace s (place
 -- ---- a word
 
 word-leaves-refl : (c i : ℕ) (s : State) → WordLeaves c i s s
-word-leaves-refl c i s = record { words = λ d k n. refl; registers = refl; others = λ d n. refl; own = λ n. refl; stepping = λ d. refl }
+word-leaves-refl c i s = record { words = λ d k n. refl; registers = refl; others = λ d n. refl; own = λ n. refl; stepping = λ d. refl; levels = λ d. refl }
 
-word-leaves : (c i v : ℕ) (s : State) → i < 8 → WordLeaves c i s (stored s (8 * c + i) v)
+pub word-leaves : (c i v : ℕ) (s : State) → i < 8 → WordLeaves c i s (stored s (8 * c + i) v)
 unfolding withInitialised withWord withWords withChannel channel word
 word-leaves c i v s l =
     let w : State = withWord s c i v in
-    let set : WordLeaves c i s w = record { words = λ d k n. word-other s c i v d k n; registers = refl; others = λ d n. refl; own = λ n. refl; stepping = λ d. refl } in
+    let set : WordLeaves c i s w = record { words = λ d k n. word-other s c i v d k n; registers = refl; others = λ d n. refl; own = λ n. refl; stepping = λ d. refl; levels = λ d. refl } in
     let control : i ≡ 0 → WordLeaves c i s (withInitialised w c false) =
     λ e. record {
       words = λ d k n. word-other s c i v d k n;
@@ -84,6 +84,7 @@ word-leaves c i v s l =
       others = λ d n. channel-other w c _ d n;
       own = λ n. absurd (n e);
       stepping = λ d. channel-keeps (λ (y : Channel). y .phase) w c _ d refl;
+      levels = λ d. channel-keeps (λ (y : Channel). y .level) w c _ d refl;
     } in
     rw (stored-at s c i v l) (pick-cases (WordLeaves c i s) (eqb i 0) (λ t. control (eqb-true i 0 t)) (λ t. set))
 
@@ -135,7 +136,7 @@ requests-leave (suc n) i v s l a b =
 
 -- ---- pins and TCR1
 
-abbrev Steady : State → State → Type 0
+abbrev pub Steady : State → State → Type 0
 Steady s w = (w .pins ≡ s .pins) × (w .tcr1 ≡ s .tcr1)
 
 steady-requested : (s t : State) (j r : ℕ) → Steady s t → Steady s (requested t j r)
@@ -148,7 +149,7 @@ unfolding each requestedOne
 steady-requests zero a v s = (refl, refl)
 steady-requests (suc n) a v s = steady-requested s _ (a + n) _ (steady-requests n a v s)
 
-steady-stored : (s : State) (at v : ℕ) → Steady s (stored s at v)
+pub steady-stored : (s : State) (at v : ℕ) → Steady s (stored s at v)
 unfolding stored withInitialised withChannel withWord withWords
 steady-stored s at v = pick-cases (Steady s) (eqb (at % 8) 0) (λ t. (refl, refl)) (λ t. (refl, refl))
 

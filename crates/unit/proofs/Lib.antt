@@ -16,5 +16,9 @@ pub mod Parts
 pub mod WholeSteps
 pub mod Leaves
 pub mod Shown
+pub mod Pins
+pub mod Lit
+pub mod LitWrites
+pub mod Every
 pub mod Always
 pub mod Term3

@@ -40,19 +40,20 @@ pub record Part : Type 0 where
   pub source : ℕ
   pub level : Bool
   pub pin : Bool
+  pub initialised : Bool
   pub fourth : ℕ
 
 unfoldable pub part : ℕ → ℕ → State → Part
-part c j s = record { control = word s j 0; source = word s j 1; level = (channel s j) .level; pin = pin s j; fourth = word s c 4 }
+part c j s = record { control = word s j 0; source = word s j 1; level = (channel s j) .level; pin = pin s j; initialised = (channel s j) .initialised; fourth = word s c 4 }
 
 -- a match that acts puts the level out
 unfoldable pub showPart : Bool → Part → Part
-showPart b q = record { control = q .control; source = q .source; level = q .level; pin = pick b (q .level) (q .pin); fourth = q .fourth }
+showPart b q = record { control = q .control; source = q .source; level = q .level; pin = pick b (q .level) (q .pin); initialised = q .initialised; fourth = q .fourth }
 
 -- a step's part in it, m being MOD_CNT after the step
 unfoldable pub turnPart : Way → ℕ → Part → Part
 turnPart w m q =
-    record { control = pick (eqb m 0) (q .source) (turnedOnce w (q .control)); source = q .source; level = bitOf (turnedOnce w (q .control)) 15; pin = q .pin; fourth = q .fourth }
+    record { control = pick (eqb m 0) (q .source) (turnedOnce w (q .control)); source = q .source; level = bitOf (turnedOnce w (q .control)) 15; pin = q .pin; initialised = q .initialised; fourth = q .fourth }
 
 -- b: the match of the step is already due
 unfoldable pub outcomePart : Bool → Outcome → Part → Part
@@ -60,7 +61,7 @@ outcomePart b Arrived q = q
 outcomePart b (Step w k) q =
     let m = nextCount w (field 4 (q .fourth) 8) in
     let x = turnedOnce w (q .control) in
-    record { control = pick (eqb m 0) (q .source) x; source = q .source; level = bitOf x 15; pin = pick b (bitOf x 15) (q .pin); fourth = withField 4 (withField 4 (q .fourth) 8 m) 0 k }
+    record { control = pick (eqb m 0) (q .source) x; source = q .source; level = bitOf x 15; pin = pick b (bitOf x 15) (q .pin); initialised = q .initialised; fourth = withField 4 (withField 4 (q .fourth) 8 m) 0 k }
 
 -- the match of a step of the group g with this reference time is already due
 unfoldable pub dueAtOnce : Group → ℕ → Bool
@@ -86,33 +87,35 @@ last-counted p y x s = ap (λ k. field 4 k 0) (word-other (withWord s p 2 y) p 4
 -- ---- setters that leave it alone
 
 module _ (c j : ℕ) where
-  part-channel : (i : ℕ) (x : Channel) (s : State) → x .level ≡ (channel s i) .level → part c j (withChannel s i x) ≡ part c j s
+  part-channel : (i : ℕ) (x : Channel) (s : State) → x .level ≡ (channel s i) .level → x .initialised ≡ (channel s i) .initialised → part c j (withChannel s i x) ≡ part c j s
   unfolding part withChannel word pin
-  part-channel i x s e = λ k. record { control = word s j 0; source = word s j 1; level = channel-keeps (λ y. y .level) s i x j e k; pin = pin s j; fourth = word s c 4 }
+  part-channel i x s e d = λ k. record { control = word s j 0; source = word s j 1; level = channel-keeps (λ y. y .level) s i x j e k; pin = pin s j; initialised = channel-keeps (λ y. y .initialised) s i x j d k; fourth = word s c 4 }
 
   part-word : (i k v : ℕ) (s : State) → 8 * j + 0 ≢ 8 * i + k → 8 * j + 1 ≢ 8 * i + k → 8 * c + 4 ≢ 8 * i + k → part c j (withWord s i k v) ≡ part c j s
   unfolding part withWord withWords channel pin
-  part-word i k v s a b d = λ z. record { control = word-other s i k v j 0 a z; source = word-other s i k v j 1 b z; level = (channel s j) .level; pin = pin s j; fourth = word-other s i k v c 4 d z }
+  part-word i k v s a b d = λ z. record { control = word-other s i k v j 0 a z; source = word-other s i k v j 1 b z; level = (channel s j) .level; pin = pin s j; initialised = (channel s j) .initialised; fourth = word-other s i k v c 4 d z }
 
   part-status : (i : ℕ) (s : State) → part c j (withStatus s i) ≡ part c j s
   unfolding part withStatus withReg word channel pin
   part-status i s = refl
 
-  part-request : (i r : ℕ) (s : State) → part c j (withRequest s i r) ≡ part c j s
+  pub part-request : (i r : ℕ) (s : State) → part c j (withRequest s i r) ≡ part c j s
   unfolding part withRequest withReg word channel pin
   part-request i r s = refl
 
   part-pin : (i : ℕ) (on : Bool) (s : State) → j ≢ i → part c j (withPin s i on) ≡ part c j s
   unfolding part withPin withPins word channel pin
-  part-pin i on s n = λ k. record { control = word s j 0; source = word s j 1; level = (channel s j) .level; pin = bit-other (s .pins) (bitValue on) j i n k; fourth = word s c 4 }
+  part-pin i on s n = λ k. record { control = word s j 0; source = word s j 1; level = (channel s j) .level; pin = bit-other (s .pins) (bitValue on) j i n k; initialised = (channel s j) .initialised; fourth = word s c 4 }
 
-  part-phase : (i : ℕ) (w : Way) (p : Phase) (s : State) → part c j (withPhase s i w p) ≡ part c j s
+  pub part-phase : (i : ℕ) (w : Way) (p : Phase) (s : State) → part c j (withPhase s i w p) ≡ part c j s
   unfolding withPhase
-  part-phase i w p s = part-channel i _ s refl
+  part-phase i w p s = part-channel i _ s refl refl
 
-  part-initialised : (i : ℕ) (on : Bool) (s : State) → part c j (withInitialised s i on) ≡ part c j s
-  unfolding withInitialised
-  part-initialised i on s = part-channel i _ s refl
+  part-initialised : (i : ℕ) (on : Bool) (s : State) → j ≢ i → part c j (withInitialised s i on) ≡ part c j s
+  unfolding withInitialised withChannel part word pin
+  part-initialised i on s n =
+      let e : channel (withInitialised s i on) j ≡ channel s j = channel-other s i _ j n in
+      λ k. record { control = word s j 0; source = word s j 1; level = e k .level; pin = pin s j; initialised = e k .initialised; fourth = word s c 4 }
 
   part-each : (n a : ℕ) (f : ℕ → State → State) → ((i : ℕ) → a ≤ i → i < a + n → (s : State) → part c j (f i s) ≡ part c j s) → (s : State) → part c j (each n a f s) ≡ part c j s
   unfolding each
@@ -128,8 +131,8 @@ module _ (c j : ℕ) where
   part-prepared w m i s n =
       let t : State = withWord s i 0 (pick (eqb m 0) (pinControl s i) (turnedOnce w (channelControl s i))) in
       let e : part c j t ≡ part c j s = part-word i 0 _ s (λ q. n (omega arith)) (λ q. omega arith) (λ q. omega arith) in
-      let l : (channel (prepared w m i s) j) .level ≡ (channel t j) .level = ap (λ (y : Channel). y .level) (channel-other t i _ j n) in
-      λ k. record { control = e k .control; source = e k .source; level = (l ∙ ap (λ (q : Part). q .level) e) k; pin = e k .pin; fourth = e k .fourth }
+      let l : channel (prepared w m i s) j ≡ channel t j = channel-other t i _ j n in
+      λ k. record { control = e k .control; source = e k .source; level = (ap (λ (y : Channel). y .level) l ∙ ap (λ (q : Part). q .level) e) k; pin = e k .pin; initialised = (ap (λ (y : Channel). y .initialised) l ∙ ap (λ (q : Part). q .initialised) e) k; fourth = e k .fourth }
 
   part-matchSet : (p : ℕ) (w : Way) (t : ℕ) (s : State) → (p ≤ j → j ≤ last s p → ⊥) → part c j (matchSet s p w t) ≡ part c j s
   unfolding matchSet
@@ -146,7 +149,7 @@ module _ (c j : ℕ) where
   part-matchOf (Armed t) p s e h = pick-cases (λ x. part c j x ≡ part c j s) (due (s .tcr1) t) (λ a. part-phase p _ _ _ ∙ part-pins p s (out-of-reach p s h (rw e))) (λ a. refl)
   part-matchOf (Matched t) p s e h = refl
 
-  part-matched : (p : ℕ) (s : State) → reaches s j p ≡ false → part c j (matched p s) ≡ part c j s
+  pub part-matched : (p : ℕ) (s : State) → reaches s j p ≡ false → part c j (matched p s) ≡ part c j s
   unfolding matched
   part-matched p s h = part-matchOf _ p s refl h
 
@@ -179,7 +182,7 @@ module _ (c j : ℕ) where
     part-initialise : (s : State) → j ≢ p → part c j (initialise p s) ≡ part c j s
     unfolding initialise
     part-initialise s m =
-        part-status p _ ∙ part-initialised p true _ ∙ part-word p 0 _ _ (λ q. m (omega arith)) (λ q. omega arith) (λ q. omega arith) ∙ part-pin p _ s m
+        part-status p _ ∙ part-initialised p true _ m ∙ part-word p 0 _ _ (λ q. m (omega arith)) (λ q. omega arith) (λ q. omega arith) ∙ part-pin p _ s m
 
     part-requestServed : (s : State) → (j ≡ p → request s p ≡ 0) → reaches s j p ≡ false → part c j (requestServed p s) ≡ part c j s
     unfolding requestServed last word withRequest withReg
@@ -187,7 +190,7 @@ module _ (c j : ℕ) where
         pick-cases (λ x. part c j x ≡ part c j s) (eqb (request s p) 2) (λ a. part-initialise _ (λ z. not-both a (rw (r z))) ∙ part-request p 0 s)
         (λ a. pick-cases (λ x. part c j x ≡ part c j s) (eqb (request s p) 3) (λ b. part-stepRequest ((channel s p) .phase) s _ refl h refl ∙ part-request p 0 s) (λ b. refl))
 
-    part-served : (s : State) → p < 16 → Sized s → (j ≡ p → request s p ≡ 0) → reaches s j p ≡ false → part c j (served p s) ≡ part c j s
+    pub part-served : (s : State) → p < 16 → Sized s → (j ≡ p → request s p ≡ 0) → reaches s j p ≡ false → part c j (served p s) ≡ part c j s
     unfolding served
     part-served s hp z r h =
         pick-cases (λ x. part c j x ≡ part c j s) (enabled s p)
@@ -196,7 +199,7 @@ module _ (c j : ℕ) where
 
 -- ---- the service of c itself
 
-level-out : (w i : ℕ) (on : Bool) → bitOf (withField 1 w i (bitValue on)) i ≡ on
+pub level-out : (w i : ℕ) (on : Bool) → bitOf (withField 1 w i (bitValue on)) i ≡ on
 level-out w i true = bit-same w 1 i
 level-out w i false = bit-same w 0 i
 
@@ -220,7 +223,7 @@ module _ (c j : ℕ) (h : j < 16) (hc : c < 16) where
       (eq-or-lt-of-le l)
 
   own-prepared : (w : Way) (m : ℕ) (s : State) → Sized s → part c j (prepared w m j s) ≡ turnPart w m (part c j s)
-  unfolding prepared turnPart part withLevel withChannel channelControl pinControl withWord withWords word pin
+  unfolding prepared turnPart part withLevel withChannel channelControl pinControl withWord withWords word pin channel
   own-prepared w m s z =
       let x : ℕ = pick (eqb m 0) (word s j 1) (turnedOnce w (word s j 0)) in
       let t : State = withWord s j 0 x in
@@ -229,11 +232,11 @@ module _ (c j : ℕ) (h : j < 16) (hc : c < 16) where
       let b : word t j 1 ≡ word s j 1 = word-other s j 0 x j 1 (λ q. omega arith) in
       let d : word t c 4 ≡ word s c 4 = word-other s j 0 x c 4 (λ q. omega arith) in
       let e : channel (withChannel t j y) j ≡ y = channel-same t j y h (sized-word s j 0 x z) in
-      λ k. record { control = a k; source = b k; level = e k .level; pin = pin s j; fourth = d k }
+      λ k. record { control = a k; source = b k; level = e k .level; pin = pin s j; initialised = e k .initialised; fourth = d k }
 
   own-pin : (s : State) → Sized s → part c j (pinOut j s) ≡ showPart true (part c j s)
   unfolding pinOut withPin withPins part showPart word channel pin
-  own-pin s z = λ k. record { control = word s j 0; source = word s j 1; level = (channel s j) .level; pin = level-out (s .pins) j ((channel s j) .level) k; fourth = word s c 4 }
+  own-pin s z = λ k. record { control = word s j 0; source = word s j 1; level = (channel s j) .level; pin = level-out (s .pins) j ((channel s j) .level) k; initialised = (channel s j) .initialised; fourth = word s c 4 }
 
   own-pins : (s : State) → Sized s → c ≤ j → j ≤ last s c → part c j (pinsOut s c) ≡ showPart true (part c j s)
   unfolding pinsOut size pinOut
@@ -275,11 +278,11 @@ module _ (c j : ℕ) (h : j < 16) (hc : c < 16) where
       let e0 : word u j 0 ≡ word s j 0 = word-other t c 4 x j 0 (λ q. omega arith) ∙ word-other s c 2 y j 0 (λ q. omega arith) in
       let e1 : word u j 1 ≡ word s j 1 = word-other t c 4 x j 1 (λ q. omega arith) ∙ word-other s c 2 y j 1 (λ q. omega arith) in
       let e4 : word u c 4 ≡ x = word-same t c 4 x hc (omega arith) zt in
-      let e : part c j u ≡ record { control = word s j 0; source = word s j 1; level = (channel s j) .level; pin = pin s j; fourth = x } = λ i. record { control = e0 i; source = e1 i; level = (channel s j) .level; pin = pin s j; fourth = e4 i } in
+      let e : part c j u ≡ record { control = word s j 0; source = word s j 1; level = (channel s j) .level; pin = pin s j; initialised = (channel s j) .initialised; fourth = x } = λ i. record { control = e0 i; source = e1 i; level = (channel s j) .level; pin = pin s j; initialised = (channel s j) .initialised; fourth = e4 i } in
       let ev : part c j v ≡ turnPart w m (part c j u) = own-each (prepared w m) (turnPart w m) (λ i r q. sized-prepared w m i r q) (λ i r n. part-prepared c j w m i r n) (own-prepared w m) (size s c) c a (omega arith) u zu in
       own-matchSet w time v (sized-each (size s c) c (prepared w m) (λ i r q. sized-prepared w m i r q) u zu) a (subst (λ i. j ≤ i) (sym (last-prepared c (size s c) c w m u ∙ last-counted c y x s)) b)
       ∙ ap (λ (q : Part). showPart (due (v .tcr1) time) q) (ev ∙ ap (turnPart w m) e)
-      ∙ ap (λ i. showPart (due i time) (turnPart w m record { control = word s j 0; source = word s j 1; level = (channel s j) .level; pin = pin s j; fourth = x })) (same-time (size s c) c w m u)
+      ∙ ap (λ i. showPart (due i time) (turnPart w m record { control = word s j 0; source = word s j 1; level = (channel s j) .level; pin = pin s j; initialised = (channel s j) .initialised; fourth = x })) (same-time (size s c) c w m u)
 
 last-seen : (s : State) (c : ℕ) → (view s c) .last ≡ last s c
 unfolding view viewIn look last

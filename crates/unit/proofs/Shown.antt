@@ -55,7 +55,7 @@ turn-on Left x (suc m) h l n =
     let e : (suc m + 15) % 16 ≡ m = omega arith in
     rw e (left-next x m (omega arith) (omega arith))
 
-unfoldable Patterned : Part → Type 0
+unfoldable pub Patterned : Part → Type 0
 Patterned q = q .control ≡ rotatedRight (q .source) (field 4 (q .fourth) 8)
 
 patterned-outcome : (b : Bool) (o : Outcome) (q : Part) → q .source ≤ 0xffff → Patterned q → Patterned (outcomePart b o q)
@@ -136,16 +136,16 @@ shown-tick p s f h g =
 -- ---- a write
 
 -- what a write leaves of a channel, and of the group of p
-record Kept (j : ℕ) (s w : State) : Type 0 where
-  control : word w j 0 ≡ word s j 0
-  source : word w j 1 ≡ word s j 1
-  function : function w j ≡ function s j
-  initialised : (channel w j) .initialised ≡ (channel s j) .initialised
+pub record Kept (j : ℕ) (s w : State) : Type 0 where
+  pub control : word w j 0 ≡ word s j 0
+  pub source : word w j 1 ≡ word s j 1
+  pub function : function w j ≡ function s j
+  pub initialised : (channel w j) .initialised ≡ (channel s j) .initialised
 
 pub record Over (p : ℕ) (s w : State) : Type 0 where
-  fourth : word w p 4 ≡ word s p 4
-  fifth : word w p 5 ≡ word s p 5
-  members : (j : ℕ) → p ≤ j → j ≤ last s p → Kept j s w
+  pub fourth : word w p 4 ≡ word s p 4
+  pub fifth : word w p 5 ≡ word s p 5
+  pub members : (j : ℕ) → p ≤ j → j ≤ last s p → Kept j s w
 
 pub shown-over : (p : ℕ) (s w : State) → Over p s w → GroupShown p s → GroupShown p w
 unfolding channelControl pinControl modCount last
@@ -166,9 +166,9 @@ shown-over p s w o g =
 
 -- all words, functions and set-ups stay
 pub record Stays (s w : State) : Type 0 where
-  words : (j k : ℕ) → word w j k ≡ word s j k
-  functions : (j : ℕ) → function w j ≡ function s j
-  ready : (j : ℕ) → (channel w j) .initialised ≡ (channel s j) .initialised
+  pub words : (j k : ℕ) → word w j k ≡ word s j k
+  pub functions : (j : ℕ) → function w j ≡ function s j
+  pub ready : (j : ℕ) → (channel w j) .initialised ≡ (channel s j) .initialised
 
 pub stays-over : (p : ℕ) (s w : State) → Stays s w → Over p s w
 stays-over p s w y =
@@ -290,7 +290,7 @@ over-initialised p j on s w out o =
           };
     }
 
-over-stored : (p j i v : ℕ) (s : State) → i < 8 → Held p s → (p ≤ j → j ≤ last s p → ⊥) ⊎ (i ≡ 3) → Over p s (stored s (8 * j + i) v)
+pub over-stored : (p j i v : ℕ) (s : State) → i < 8 → Held p s → (p ≤ j → j ≤ last s p → ⊥) ⊎ (i ≡ 3) → Over p s (stored s (8 * j + i) v)
 over-stored p j i v s l h o =
     let w : Over p s (withWord s j i v) = over-word p j i v s l h o in
     rw (stored-at s j i v l)
@@ -310,3 +310,8 @@ unfolding askPlace OverVerdict PlaceGood
 over-place p (AtRegister i) v s g h = over-register p i v s g h
 over-place p (AtWord j i) v s g h = over-parameter p j i v s (g .1) h
 over-place p Nowhere v s g h = tt
+
+-- ---- every group under way
+
+unfoldable pub Every : State → Type 0
+Every s = (p : ℕ) → p < 16 → stepping s p ≡ true → Held p s × GroupShown p s

@@ -28,6 +28,10 @@ pub or-right : (a b : Bool) → b ≡ true → (a || b) ≡ true
 or-right true b e = refl
 or-right false b e = e
 
+pub or-first : (a b : Bool) → (a || b) ≡ true → b ≡ false → a ≡ true
+or-first true b e f = refl
+or-first false b e f = absurd (not-both e f)
+
 pub or-none : (a b : Bool) → (a || b) ≡ false → (a ≡ false) × (b ≡ false)
 or-none true b e = absurd (not-both refl e)
 or-none false b e = (refl, e)
@@ -54,3 +58,22 @@ all-yes f p zero a h i e = absurd (omega arith)
 all-yes f p (suc n) a h i e =
     let m : p ≤ a + n = omega arith in
     ⊎-elim (λ q. subst (λ x. f x ≡ true) (sym q) (and-right (all n a f) (f (a + n)) e)) (λ q. all-yes f p n a h q (and-left (all n a f) (f (a + n)) e)) (eq-or-lt-of-le m)
+
+-- one of them, where any is
+pub record Found (f : ℕ → Bool) (n a : ℕ) : Type 0 where
+  pub place : ℕ
+  pub above : a ≤ place
+  pub below : place < a + n
+  pub yes : f place ≡ true
+
+pub any-some : (f : ℕ → Bool) (n a : ℕ) → any n a f ≡ true → Found f n a
+unfolding any
+any-some f zero a e = absurd (not-both e refl)
+any-some f (suc n) a e = by (any-some f n a) (f (a + n)) refl
+  where
+    before : Found f n a → Found f (suc n) a
+    before x = record { place = x .place; above = x .above; below = omega (arith, x .below); yes = x .yes }
+
+    by : (any n a f ≡ true → Found f n a) → (b : Bool) → f (a + n) ≡ b → Found f (suc n) a
+    by r true t = record { place = a + n; above = omega arith; below = omega arith; yes = t }
+    by r false t = before (r (or-first (any n a f) (f (a + n)) e t))

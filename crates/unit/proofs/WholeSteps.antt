@@ -110,7 +110,7 @@ module _ (c : ℕ) (s : State) (h : Held c s) (f : Fine s) where
   unfolding view viewIn groupIn look viewTicked
   time = ap (λ (v : View). v .group .clock) (view-tick c s (h .sized) (h .seen)) ∙ tick-clock g
 
-  ticked : (view t c) .group ≡ group.tick g
+  pub ticked : (view t c) .group ≡ group.tick g
   unfolding viewTicked
   ticked = ap (λ (v : View). v .group) (view-tick c s (h .sized) (h .seen))
 
@@ -200,14 +200,14 @@ module _ (c : ℕ) (s : State) (h : Held c s) (f : Fine s) where
       step-by x (onMatch (motorOf s c)) (inr (ap (λ y. happened y ((channel s c) .phase)) time ∙ q, refl)) e parts (one-step .on-match (motorOf s c) valid)
 
   -- the part of each channel, by the view after the matches
-  parts-turned : (j : ℕ) → c ≤ j → j ≤ last s c
+  pub parts-turned : (j : ℕ) → c ≤ j → j ≤ last s c
       → part c j t ≡ pick (enabled s c) (phasePart (happened (later (s .tcr1) 1) ((channel s c) .phase)) (group.clocked g) (showPart acted (part c j s))) (showPart acted (part c j s))
   unfolding view viewIn groupIn look motorOf position target nextRate top group.clocked
   parts-turned j a b =
       part-tick c j s h a b
       ∙ ap (λ (v : View). pick (v .group .enabled) (phasePart (v .group .phase) (v .group) (showPart acted (part c j s))) (showPart acted (part c j s))) (view-matches c s (h .sized) (h .seen))
 
-  tick-is : Ticked
+  pub tick-is : Ticked
   unfolding group.tick group.clocked view viewIn groupIn look
   tick-is = by (enabled s c) ticked parts-turned
     where

@@ -94,10 +94,17 @@ after-requests c a v s l h = by (askChannels 8 a v s) (channels-ask 8 a v s) (af
 -- ---- registers
 
 -- any register but HSRR
-abbrev NotRequests : ℕ → Type 0
+abbrev pub NotRequests : ℕ → Type 0
 NotRequests i = (i < 7) ⊎ (8 < i)
 
-request-reg : (s : State) (i v d : ℕ) → NotRequests i → request (withReg s i v) d ≡ request s d
+pub not-requests : (i : ℕ) → (leb 7 i && leb i 8) ≡ false → NotRequests i
+not-requests i d = by (leb 7 i) refl
+  where
+    by : (t : Bool) → leb 7 i ≡ t → NotRequests i
+    by false t = inl (omega (arith, leb-false 7 i t))
+    by true t = inr (omega (arith, leb-false i 8 (sym (ap (λ x. x && leb i 8) t) ∙ d)))
+
+pub request-reg : (s : State) (i v d : ℕ) → NotRequests i → request (withReg s i v) d ≡ request s d
 unfolding request
 request-reg s i v d n =
     let k : (7 ≤ hsrrOf d) × (hsrrOf d ≤ 8) = hsrr-range d in
@@ -143,14 +150,7 @@ write-register c i v s l h =
     after-question c s _ 2 (Taken (Register i v)) (λ q. register-altered c i v s h (inl (omega arith)) (status-reg s i v c n)))
     (λ b. pick-cases (AfterVerdict c s) (leb 7 i && leb i 8)
     (λ d. let m : 7 ≤ i = leb-true 7 i (and-left (leb 7 i) (leb i 8) d) in after-requests c (8 * (8 - i)) v s (omega arith) h)
-    (λ d. register-altered c i v s h (apart d) (status-reg s i v c n))))
-  where
-    apart : (leb 7 i && leb i 8) ≡ false → NotRequests i
-    apart d = by (leb 7 i) refl
-      where
-        by : (t : Bool) → leb 7 i ≡ t → NotRequests i
-        by false t = inl (omega (arith, leb-false 7 i t))
-        by true t = inr (omega (arith, leb-false i 8 (sym (ap (λ x. x && leb i 8) t) ∙ d)))
+    (λ d. register-altered c i v s h (not-requests i d) (status-reg s i v c n))))
 
 -- ---- parameter words
 
@@ -186,7 +186,7 @@ alone-word c j i v s l n r a =
         ⊎-elim (λ m. reaches-word s j i v k p (λ q. m (omega (arith, eqb-true p j t))) ∙ f) (λ h. reaches-still s j i v k p (subst (λ x. stepping s x ≡ false) (sym (eqb-true p j t)) h)) r
     by k p f false t = reaches-word s j i v k p (λ q. eqb-false p j t (omega arith)) ∙ f
 
-sized-initialised : (s : State) (j : ℕ) (on : Bool) → Sized s → Sized (withInitialised s j on)
+pub sized-initialised : (s : State) (j : ℕ) (on : Bool) → Sized s → Sized (withInitialised s j on)
 unfolding withInitialised
 sized-initialised s j on z = sized-channel s j _ z
 

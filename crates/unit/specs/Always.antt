@@ -1,12 +1,15 @@
 -- What holds in every history: no motor moves on a channel whose setup was skipped. Document 01, term 1; questions 5 to 7.
 use Prim.Native.Nat.{ℕ, _≤_, _<_}
-use mathlib.Core.Bool.{true}
+use mathlib.Core.Bool.{true, false}
 use mathlib.Core.List.{List, _++_}
-use mathlib.Core.Logic.{_≢_}
+use mathlib.Core.Logic.{_≢_, _⊎_}
 use mathlib.Core.Path.{_≡_}
+use Rattle.words.specs.Field.{bitOf}
 use Rattle.words.specs.Rotation.{rotatedRight}
+use Rattle.motor.specs.declared.Phase.the-variants.{Matched}
 use Rattle.unit.specs.declared.State.{State}
-use Rattle.unit.specs.TheUnit.{resetState, function, channel, word, channelControl, pinControl, position, modCount, last, stepping}
+use Rattle.unit.specs.TheUnit.{resetState, pin, request, reaches, isBound, function, channel, word, channelControl, pinControl, position, modCount, last, stepping}
+use Rattle.unit.specs.OneStep.{actsAt}
 use Rattle.unit.specs.OneTick.{tick}
 use Rattle.unit.specs.Gate.{otherwiseZero, spanGood}
 use Rattle.unit.specs.Calls.{Call}
@@ -32,8 +35,25 @@ pub record StateOf (calls : List Call) (s : State) : Type 0 where
   pub cut : acts calls ≡ before ++ rest
   pub reached : s ≡ through resetState before
 
+-- the initialise that was pending is done: the pin is bit 15 of PIN_CONTROL
+pub record ByInitialise (j : ℕ) (s : State) : Type 0 where
+  pub pending : request s j ≡ 2
+  pub level : pin (tick s) j ≡ bitOf (pinControl s j) 15
+
+-- a match of the group of `primary`, which has the channel, acts: the one that was set falls due, or the one of a step is already due at
+-- its set-up. The pin is the level prepared for it.
+pub record ByMatch (j : ℕ) (s : State) : Type 0 where
+  pub primary : ℕ
+  pub reached : reaches s j primary ≡ true
+  pub level : ((actsAt ((channel s primary) .phase) ((tick s) .tcr1) ≡ true) × (pin (tick s) j ≡ (channel s j) .level))
+      ⊎ (((channel (tick s) primary) .phase ≡ Matched ((tick s) .tcr1)) × (pin (tick s) j ≡ (channel (tick s) j) .level))
+
 pub record Always : Type 0 where
   -- a bound group is set up and shows its pattern
   pub shown : (calls : List Call) (s : State) → StateOf calls s → (p : ℕ) → p < 16 → stepping s p ≡ true → GroupShown p s
+  -- an initialised channel that is not bound shows bit 15 of its CHANNEL_CONTROL
+  pub rests : (calls : List Call) (s : State) → StateOf calls s → (j : ℕ) → j < 16 → isBound s j ≡ false → (channel s j) .initialised ≡ true → pin s j ≡ bitOf (channelControl s j) 15
+  -- a pin changes in a tick only by an initialise of its channel or by a match of its group
+  pub pins : (calls : List Call) (s : State) → StateOf calls s → (j : ℕ) → j < 16 → pin (tick s) j ≢ pin s j → ByInitialise j s ⊎ ByMatch j s
   -- a position changes in a tick only while its group is under way, so only while each of its channels is set up
   pub moves : (calls : List Call) (s : State) → StateOf calls s → (p : ℕ) → p < 16 → position (tick s) p ≢ position s p → (stepping s p ≡ true) × GroupShown p s

@@ -16,6 +16,7 @@ pub record WordLeaves (c i : ℕ) (s w : State) : Type 0 where
   pub others : (d : ℕ) → d ≢ c → channel w d ≡ channel s d
   pub own : i ≢ 0 → channel w c ≡ channel s c
   pub stepping : (d : ℕ) → (channel w d) .phase ≡ (channel s d) .phase
+  pub levels : (d : ℕ) → (channel w d) .level ≡ (channel s d) .level
 
 -- a write of v to the register i: only that register, and what is kept of the channels for which v has a step request
 pub record RegisterLeaves (i v : ℕ) (s w : State) : Type 0 where
