@@ -11,12 +11,14 @@ use Rattle.unit.specs.TheUnit.{resetState, cisr, withWords, withReg, wit
 use Rattle.unit.specs.Stepping.{pinOut, pinsOut, nextCount, turnedOnce, prepared, matchSet, stepped, outcome}
 use Rattle.unit.specs.OneTick.{matchOf, matched, initialise, stepRequest, requestServed, matchServed, served, clocked, tick, afterTicks}
 use Rattle.unit.specs.Gate.{place, isPlace, inList, isFree, isStepper, mayInitialise, otherwiseZero, spanGood, isReady, groupReady, showsPattern, patternGood, rampGood, targetGood, advanceGood, requested, askInitialise, askStep, askChannel, andThen, askChannels, verdictOf, keepsOrFree, askRegister, askWord, askPlace, gate, requestedOne, stored, done}
-use Rattle.unit.specs.Calls.{Call, Write, Advance, answeredBy, writeOf, advanceOf, after, run}
+use Rattle.unit.specs.Calls.{pinWords, Call, Write, Advance, answeredBy, writeOf, advanceOf, after, run}
 use Rattle.words.specs.Choice.{ask}
 use Rattle.words.specs.Clock.{since, due, later}
 use Rattle.words.specs.Field.{field, withField, bitOf}
 use Rattle.words.specs.Rotation.{rotatedRight, rotatedLeft}
 use Rattle.motor.specs.Stepping.{period, ahead, accelerates, choice, test, turn, onRequest, onMatch, beside}
+use Rattle.motor.specs.declared.Way.the-variants.{Right}
+use Rattle.motor.specs.declared.Phase.the-variants.{Armed, Matched}
 use Rattle.motor.specs.Group.{bound}
 
 -- the lists of a state have the lengths of its arrays
@@ -71,6 +73,21 @@ row-left : (shows (afterTicks 1 (goes 7 4)) ≡ 0x10 ∷ 6 ∷ 3842 ∷ 0x843 �
     × (shows (afterTicks 18 (goes 7 4)) ≡ 0x20 ∷ 4 ∷ 3329 ∷ 0x210c ∷ 0x91a0 ∷ 0x10 ∷ [])
 unfolding withWords withReg withTime withPins withChannel each all any cfsrOf hsrrOf cprOf reg function request withRequest enabled status withStatus withPin channel withInitialised withLevel withPhase word withWord exists channelControl pinControl position target modCount nextRate top last cntl0 cntl1 size motorOf stepping reaches isBound pinOut pinsOut nextCount turnedOnce prepared matchSet stepped outcome matchOf matched initialise stepRequest requestServed matchServed served clocked tick afterTicks place isPlace inList isFree isStepper mayInitialise otherwiseZero spanGood isReady groupReady showsPattern patternGood rampGood targetGood advanceGood requested askInitialise askStep askChannel andThen askChannels verdictOf keepsOrFree askRegister askWord askPlace gate requestedOne stored done answeredBy writeOf advanceOf after run ask since due later field withField bitOf rotatedRight rotatedLeft period ahead accelerates choice test turn onRequest onMatch beside bound goes numberOf refuses shows ready
 row-left = (refl, refl, refl, refl, refl, refl)
+
+-- the pin word of each tick is its own
+row-pins : pinWords 2 (afterTicks 16 (goes 0 3)) ≡ 0x0 ∷ 0x20 ∷ []
+unfolding withWords withReg withTime withPins withChannel each all any cfsrOf hsrrOf cprOf reg function request withRequest enabled status withStatus withPin channel withInitialised withLevel withPhase word withWord exists channelControl pinControl position target modCount nextRate top last cntl0 cntl1 size motorOf stepping reaches isBound pinOut pinsOut nextCount turnedOnce prepared matchSet stepped outcome matchOf matched initialise stepRequest requestServed matchServed served clocked tick afterTicks place isPlace inList isFree isStepper mayInitialise otherwiseZero spanGood isReady groupReady showsPattern patternGood rampGood targetGood advanceGood requested askInitialise askStep askChannel andThen askChannels verdictOf keepsOrFree askRegister askWord askPlace gate requestedOne stored done answeredBy writeOf advanceOf after run ask since due later field withField bitOf rotatedRight rotatedLeft period ahead accelerates choice test turn onRequest onMatch beside bound goes numberOf refuses shows ready pinWords
+row-pins = refl
+
+-- a match beyond the wrap of TCR1 is not due before it
+row-wrap : ((channel (matched 4 (withTime (withPhase resetState 4 Right (Armed 3)) 0xfffe)) 4) .phase ≡ Armed 3) × ((channel (matched 4 (withTime (withPhase resetState 4 Right (Armed 3)) 3)) 4) .phase ≡ Matched 3)
+unfolding withWords withReg withTime withPins withChannel each all any cfsrOf hsrrOf cprOf reg function request withRequest enabled status withStatus withPin channel withInitialised withLevel withPhase word withWord exists channelControl pinControl position target modCount nextRate top last cntl0 cntl1 size motorOf stepping reaches isBound pinOut pinsOut nextCount turnedOnce prepared matchSet stepped outcome matchOf matched initialise stepRequest requestServed matchServed served clocked tick afterTicks place isPlace inList isFree isStepper mayInitialise otherwiseZero spanGood isReady groupReady showsPattern patternGood rampGood targetGood advanceGood requested askInitialise askStep askChannel andThen askChannels verdictOf keepsOrFree askRegister askWord askPlace gate requestedOne stored done answeredBy writeOf advanceOf after run ask since due later field withField bitOf rotatedRight rotatedLeft period ahead accelerates choice test turn onRequest onMatch beside bound goes numberOf refuses shows ready
+row-wrap = (refl, refl)
+
+-- a target put behind a fast motor: it slows down first
+row-behind : position (afterTicks 4 ((writeOf (afterTicks 12 (goes 0 9)) 0xf46 1) .state)) 4 ≡ 4
+unfolding withWords withReg withTime withPins withChannel each all any cfsrOf hsrrOf cprOf reg function request withRequest enabled status withStatus withPin channel withInitialised withLevel withPhase word withWord exists channelControl pinControl position target modCount nextRate top last cntl0 cntl1 size motorOf stepping reaches isBound pinOut pinsOut nextCount turnedOnce prepared matchSet stepped outcome matchOf matched initialise stepRequest requestServed matchServed served clocked tick afterTicks place isPlace inList isFree isStepper mayInitialise otherwiseZero spanGood isReady groupReady showsPattern patternGood rampGood targetGood advanceGood requested askInitialise askStep askChannel andThen askChannels verdictOf keepsOrFree askRegister askWord askPlace gate requestedOne stored done answeredBy writeOf advanceOf after run ask since due later field withField bitOf rotatedRight rotatedLeft period ahead accelerates choice test turn onRequest onMatch beside bound goes numberOf refuses shows ready
+row-behind = refl
 
 -- question 1: an odd address, and one that is not in the list
 row-question-1 : (refuses [] 0xe0b 0 ≡ 1) × (refuses [] 0xe08 0 ≡ 1) × (refuses [] 0xe22 0 ≡ 1) × (refuses [] 0xffe 0 ≡ 0)

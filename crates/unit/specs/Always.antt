@@ -1,4 +1,4 @@
--- What holds in every history: no motor moves on a channel whose setup was skipped. Document 01, term 1; questions 5 to 7.
+-- What holds in every history: a motor steps only where each of its channels was set up. The buyer's term 1; document 01, questions 5 to 7.
 use Prim.Native.Nat.{ℕ, _≤_, _<_}
 use mathlib.Core.Bool.{true, false}
 use mathlib.Core.List.{List, _++_}

@@ -94,8 +94,8 @@ impl State {
     }
 }
 
-// About every list of calls from reset: it does just what happens in it, a write leaves alone what it does not name, no motor moves
-// on a channel whose setup was skipped, and term 3.
+// About every list of calls from reset: it does just what happens in it, a write leaves alone what it does not name, a motor
+// steps only where each of its channels was set up, and term 3.
 pub fn term_3()
     ensures { λ r. ⌜ CallsAre × WritesLeave × Always × Term3 ⌝ }
 {}
