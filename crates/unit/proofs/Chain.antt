@@ -147,7 +147,7 @@ gate-place s a v = by (place a)
     by (AtWord c i) = refl
     by Nowhere = refl
 
-target-place : (c : ℕ) (p : Place) → isTargetOf c p ≡ true → p ≡ AtWord c 3
+pub target-place : (c : ℕ) (p : Place) → isTargetOf c p ≡ true → p ≡ AtWord c 3
 unfolding isTargetOf
 target-place c (AtRegister i) e = absurd (not-both e refl)
 target-place c (AtWord j i) e =

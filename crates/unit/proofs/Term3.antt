@@ -10,14 +10,14 @@ use lib.Bits.{bitAnd}
 use lib.Dec.{eqb, leb}
 use lib.ListN.{take}
 use borrow.Author.Tests.{eqb-true, eqb-false, le-leb}
-use Rattle.words.specs.Choice.{ask}
+use Rattle.words.specs.Choice.{pick, ask}
 use Rattle.words.specs.Field.{bitOf}
-use Rattle.words.proofs.ChoiceLaws.{pick-cases, ask-cases, fails, tests}
+use Rattle.words.proofs.ChoiceLaws.{not-both, pick-cases, ask-cases, fails, tests}
 use Rattle.motor.specs.declared.Way.{Way}
 use Rattle.motor.specs.declared.Phase.{Phase}
-use Rattle.motor.specs.Group.{Group, bound}
+use Rattle.motor.specs.Group.{Group, bound, aimed}
 use Rattle.motor.specs.Group as group
-use Rattle.motor.specs.Count.{Sight, Moment, Running, NoTarget, Dark, Linked, after, Counted}
+use Rattle.motor.specs.Count.{Target, Other, isTarget, Sight, Moment, Running, NoTarget, Dark, Linked, after, Counted}
 use Rattle.motor.specs.GroupCount.{final}
 use Rattle.motor.specs.GroupCount as group-count
 use Rattle.motor.proofs.Counts.{dark}
@@ -27,21 +27,21 @@ use Rattle.unit.specs.declared.State.{State}
 use Rattle.unit.specs.declared.Deed.the-variants.{Parameter, Register, Request}
 use Rattle.unit.specs.declared.Verdict.{Verdict}
 use Rattle.unit.specs.declared.Verdict.the-variants.{Taken as Does, Refused as Stops}
-use Rattle.unit.specs.TheUnit.{resetState, withReg, withWords, withChannel, each, cisr, reg, status, withInitialised, withPhase, withWord, exists, cntl0, cntl1, last, stepping, reaches, isBound}
-use Rattle.unit.specs.Gate.{Place, AtRegister, AtWord, Nowhere, place, isFree, targetGood, requested, requestedOne, Asked, Yes, No, askChannels, verdictOf, askRegister, askWord, askPlace, stored, done}
+use Rattle.unit.specs.TheUnit.{target, resetState, withReg, withWords, withChannel, each, cisr, reg, status, withInitialised, withPhase, withWord, exists, cntl0, cntl1, last, stepping, reaches, isBound}
+use Rattle.unit.specs.Gate.{gate, Place, AtRegister, AtWord, Nowhere, place, isFree, targetGood, requested, requestedOne, Asked, Yes, No, askChannels, verdictOf, askRegister, askWord, askPlace, stored, done}
 use Rattle.unit.specs.Calls.{answeredBy, writeOf}
-use Rattle.unit.specs.Moments.{Act, Writes, acts, does, through, see, isTaken, moments}
+use Rattle.unit.specs.Moments.{Act, Writes, acts, does, through, see, isTaken, isTargetOf, eventOf, moments}
 use Rattle.unit.specs.Term3.{firstPeriod, Freed, Run, atRequest, atStart, atCount, atEnd, momentsGone, momentsNow, Cut, Term3}
 use Rattle.unit.proofs.Reset.{Sized}
 use Rattle.unit.proofs.Access.{reg-same, status-request}
 use Rattle.unit.proofs.Look.{look}
 use Rattle.unit.proofs.Own.{viewIn, view, groupIn}
 use Rattle.unit.proofs.Alone.{Alone}
-use Rattle.unit.proofs.Tests.{any-no, or-right}
-use Rattle.unit.proofs.Held.{is-free, rests-still, still-reach}
-use Rattle.unit.proofs.Writes.{masked, status-reg}
+use Rattle.unit.proofs.Tests.{and-left, and-right, any-no, or-right}
+use Rattle.unit.proofs.Held.{Held, is-free, rests-still, still-reach}
+use Rattle.unit.proofs.Writes.{masked, status-reg, AfterTarget, write-target}
 use Rattle.unit.proofs.Fine.{Fine, fine-reset}
-use Rattle.unit.proofs.Chain.{Ahead, ahead, bound-stepping, seen, gate-place, Chained, chain}
+use Rattle.unit.proofs.Chain.{Ahead, ahead, bound-stepping, seen, gate-place, target-place, running-held, Chained, chain}
 use Rattle.unit.proofs.Begin.{Begun, begin, set-going}
 use Rattle.unit.proofs.Calls.{Words, words-acts, words-first, words-second, fine-through}
 use Rattle.unit.proofs.WholeSteps.{whole-steps}
@@ -232,10 +232,57 @@ darkens : (r : Run) → Cut r → Dark (moments (r .c) (atRequest r) (Writes (r 
 unfolding moments Dark does see
 darkens r k = (λ b e. write-dark (r .c) (r .a) (r .v) (atRequest r) (started r k .sized) e, run-dark (r .c) (atStart r) (r .gone) (begun r k) (k .running))
 
+-- ---- the counts that document 01 names
+
+through-last : (xs : List Act) (x : Act) (s : State) → through s (xs ++ (x ∷ [])) ≡ does x (through s xs)
+unfolding through
+through-last [] x s = refl
+through-last (y ∷ xs) x s = through-last xs x (does y s)
+
+running-last : (c : ℕ) (xs : List Act) (x : Act) (s : State) → Running (moments c s (xs ++ (x ∷ []))) → Running (moments c s xs) × ((see c (through s xs)) .bound ≡ true)
+unfolding through moments Running
+running-last c [] x s r = (tt, r .0)
+running-last c (y ∷ xs) x s r =
+    let k : Running (moments c (does y s) xs) × ((see c (through (does y s) xs)) .bound ≡ true) = running-last c xs x (does y s) (r .1) in
+    ((r .0, k .0), k .1)
+
+aimed-target : (c v : ℕ) (s : State) (k : Verdict) → AfterTarget c s v k → isTaken ((answeredBy k s) .answer) ≡ true → target ((answeredBy k s) .state) c ≡ v
+unfolding AfterTarget answeredBy isTaken target view viewIn groupIn look aimed
+aimed-target c v s (Does d) a t = ap (λ (g : Group). g .motor .target) (a .group)
+aimed-target c v s (Stops n) a t = absurd (not-both t refl)
+
+taken-target : (c a v : ℕ) (s : State) → Held c s → eventOf c (Writes a v) s ≡ Target → target (does (Writes a v) s) c ≡ v
+unfolding eventOf does writeOf isTarget askPlace
+taken-target c a v s h e = by (isTargetOf c (place a) && isTaken ((answeredBy (gate s a v) s) .answer)) refl e
+  where
+    by : (b : Bool) → (isTargetOf c (place a) && isTaken ((answeredBy (gate s a v) s) .answer)) ≡ b → pick b Target Other ≡ Target → target ((answeredBy (gate s a v) s) .state) c ≡ v
+    by true t q =
+        let p : place a ≡ AtWord c 3 = target-place c (place a) (and-left (isTargetOf c (place a)) _ t) in
+        let g : gate s a v ≡ askPlace s (AtWord c 3) v = gate-place s a v ∙ ap (λ y. askPlace s y v) p in
+        subst (λ k. isTaken ((answeredBy k s) .answer) ≡ true → target ((answeredBy k s) .state) c ≡ v) (sym g) (aimed-target c v s (askPlace s (AtWord c 3) v) (write-target c v s h))
+        (and-right (isTargetOf c (place a)) _ t)
+    by false t q = absurd (not-both refl (ap isTarget (sym q)))
+
+request-counts : (r : Run) → Cut r → r .gone ≡ [] → Running (momentsNow r) → NoTarget (momentsNow r) → Counted (firstPeriod (r .c) (atStart r)) (see (r .c) (atStart r)) [] (moments (r .c) (atStart r) (r .now))
+unfolding through moments
+request-counts r k e run free =
+    subst (λ g. Counted (firstPeriod (r .c) (through (atStart r) g)) (see (r .c) (atStart r)) (moments (r .c) (atStart r) g) (moments (r .c) (through (atStart r) g) (r .now))) e (counts r k run free)
+
+count-target : (r : Run) → Cut r → (earlier : List Act) (a v : ℕ) → r .gone ≡ earlier ++ (Writes a v ∷ []) → eventOf (r .c) (Writes a v) (through (atStart r) earlier) ≡ Target → target (atCount r) (r .c) ≡ v
+count-target r k earlier a v e q =
+    let b : Begun (r .c) (atStart r) = begun r k in
+    let y : Running (moments (r .c) (atStart r) earlier) × ((see (r .c) (through (atStart r) earlier)) .bound ≡ true) =
+    running-last (r .c) earlier (Writes a v) (atStart r) (subst (λ g. Running (moments (r .c) (atStart r) g)) e (k .running)) in
+    let x : Chained (r .c) (atStart r) earlier = chain (r .c) earlier (atStart r) (ahead (r .c) (atStart r) (b .held)) (y .0) in
+    ap (λ g. target (through (atStart r) g) (r .c)) e ∙ ap (λ s. target s (r .c)) (through-last earlier (Writes a v) (atStart r))
+    ∙ taken-target (r .c) a v (through (atStart r) earlier) (running-held (r .c) (through (atStart r) earlier) (x .ahead) (y .1)) q
+
 pub term-3 : Term3
 term-3 =
     record {
       counted = counts;
+      from-request = request-counts;
+      from-target = λ r k earlier a v e q run free. (count-target r k earlier a v e q, counts r k run free);
       whole = wholes;
       freed = frees;
       dark = darkens;

@@ -1,19 +1,19 @@
 -- Term 3, about every list of calls from reset. Its words are those of crate motor, `Count`.
 use Prim.Native.Nat.{ℕ, _+_, _*_, _≤_}
 use mathlib.Core.Bool.{true, false}
-use mathlib.Core.List.{List, _∷_, _++_}
+use mathlib.Core.List.{List, [], _∷_, _++_}
 use mathlib.Core.Path.{_≡_}
 use lib.ListN.{replicate}
 use Rattle.motor.specs.Stepping.{period}
-use Rattle.motor.specs.Count.{Moment, Running, Enabled, NoTarget, Undisturbed, Dark, ticksIn, after, steps, Counted, Arrives}
+use Rattle.motor.specs.Count.{Target, Moment, Running, Enabled, NoTarget, Undisturbed, Dark, ticksIn, after, steps, Counted, Arrives}
 use Rattle.unit.specs.declared.State.{State}
 use Rattle.unit.specs.declared.Answer.the-variants.{Refused}
-use Rattle.unit.specs.TheUnit.{resetState, cntl0, cntl1, last, isBound}
+use Rattle.unit.specs.TheUnit.{resetState, target, cntl0, cntl1, last, isBound}
 use Rattle.unit.specs.Gate.{advanceGood}
 use Rattle.unit.specs.Calls.{writeOf, advanceOf, lentAfter, Call, Read, run}
 use Rattle.unit.specs.Calls as calls
 use Rattle.unit.specs.OneStep.{WholeSteps}
-use Rattle.unit.specs.Moments.{Act, Ticks, Writes, acts, does, through, Typed, see, isTaken, moments, SetsGoing}
+use Rattle.unit.specs.Moments.{Act, Ticks, Writes, acts, does, through, Typed, see, isTaken, eventOf, moments, SetsGoing}
 
 -- ---- the calls and what happens are the same thing
 
@@ -81,6 +81,12 @@ pub record Term3 : Type 0 where
   -- up to the arrival or the next target taken
   pub counted : (r : Run) → Cut r → Running (momentsNow r) → NoTarget (momentsNow r)
       → Counted (firstPeriod (r .c) (atCount r)) (see (r .c) (atStart r)) (momentsGone r) (momentsNow r)
+  -- document 01 counts from the request, and from a target taken; its target is then the word that was written
+  pub from-request : (r : Run) → Cut r → r .gone ≡ [] → Running (momentsNow r) → NoTarget (momentsNow r)
+      → Counted (firstPeriod (r .c) (atStart r)) (see (r .c) (atStart r)) [] (moments (r .c) (atStart r) (r .now))
+  pub from-target : (r : Run) → Cut r → (earlier : List Act) (a v : ℕ) → r .gone ≡ earlier ++ (Writes a v ∷ []) → eventOf (r .c) (Writes a v) (through (atStart r) earlier) ≡ Target
+      → Running (momentsNow r) → NoTarget (momentsNow r)
+      → (target (atCount r) (r .c) ≡ v) × Counted (firstPeriod (r .c) (atCount r)) (see (r .c) (atStart r)) (momentsGone r) (momentsNow r)
   -- each tick is one step as under Stepping, or none
   pub whole : (r : Run) → Cut r → Running (momentsNow r) → WholeSteps (r .c) (atCount r) (r .now)
   -- at the arrival
