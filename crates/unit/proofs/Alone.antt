@@ -28,7 +28,8 @@ use Rattle.unit.proofs.Reset.{Sized}
 use Rattle.unit.proofs.Access.{sized-reg, sized-time, sized-pin, sized-channel, sized-word, word-other, request-same, request-other, request-status, hsrr-range, function-reg}
 use Rattle.unit.proofs.Frame.{sized-request}
 
--- from b to s: the groups' spans and functions stay, no group is set going, no request comes, no channel becomes uninitialised
+-- from b to s: the groups' spans and functions stay, no group is set going, no request comes, no channel becomes uninitialised, and a
+-- position changes only where a group was going
 pub record Fades (b s : State) : Type 0 where
   pub sized : Sized s
   pub spans : (p : ℕ) → word s p 5 ≡ word b p 5
@@ -49,7 +50,7 @@ set-all R (a ∷ l) zero x d e h (suc j) = h (suc j)
 set-all R (a ∷ l) (suc i) x d e h zero = h zero
 set-all R (a ∷ l) (suc i) x d e h (suc j) = set-all (λ k. R (suc k)) l i x d e (λ k. h (suc k)) j
 
--- so where nothing was asked nothing is
+-- where nothing was asked, nothing is
 pub quiet : (b s : State) → Fades b s → (p : ℕ) → p < 16 → request b p ≡ 0 → request s p ≡ 0
 quiet b s f p h e = ⊎-elim (λ q. q) (λ q. q ∙ e) (f .asks p h)
 

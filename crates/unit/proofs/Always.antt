@@ -1,12 +1,11 @@
 -- In every history each group under way is held and shown, and the pins show what they should.
-use Prim.Native.Nat.{ℕ, zero, suc, _*_, _%_, _^_, _<_}
+use Prim.Native.Nat.{ℕ, _*_, _%_, _^_, _<_}
 use native.Mathlib.Omega.{arith}
 use mathlib.Core.Bool.{Bool, true, false}
 use mathlib.Core.List.{List, [], _∷_}
 use mathlib.Core.Path.{_≡_, refl, ap, sym, subst, _∙_}
 use mathlib.Core.Logic.{_≢_, _⊎_, inl, inr, ⊎-elim}
 use native.Mathlib.Nat.{zero-div}
-use lib.ListN.{getD, replicate}
 use borrow.Author.Tests.{le-leb}
 use Rattle.words.specs.Choice.{pick}
 use Rattle.words.specs.Clock.{due}
@@ -27,6 +26,7 @@ use Rattle.unit.proofs.Parts.{Part, part}
 use Rattle.unit.proofs.WholeSteps.{tick-is}
 use Rattle.unit.proofs.Pins.{initialisedPart, Initialises}
 use Rattle.unit.proofs.Lit.{Lit, ReachedBy, reached-by, tick-outcome, initialised-pin, lit-tick}
+use Rattle.unit.proofs.Reset.{same-all}
 use Rattle.unit.proofs.Fine.{Fine, fine-reset, fine-tick}
 use Rattle.unit.proofs.Chain.{tick-held}
 use Rattle.unit.proofs.Calls.{Words, words-acts, words-first, fine-write, fine-through}
@@ -48,30 +48,20 @@ every-through (ticks ∷ xs) s w f e y = every-through xs (tick s) w (fine-tick 
 every-through (writes a v ∷ xs) s w f e y = every-through xs _ (w .1) (fine-write a v s (w .0) f) (every-write a v s f e y) (lit-write a v s f e y)
 every-through (nothing ∷ xs) s w f e y = every-through xs s w f e y
 
-idle-all : (n p : ℕ) → getD (replicate n idle) p idle ≡ idle
-idle-all zero p = refl
-idle-all (suc n) zero = refl
-idle-all (suc n) (suc p) = idle-all n p
-
 every-reset : Every resetState
 unfolding Every stepping channel bound
-every-reset p l g = absurd (not-both g (ap (λ (y : Channel). bound (y .phase)) (idle-all 16 p)))
-
-blank-all : (n i : ℕ) → _≡_ {A = ℕ} (getD (replicate n 0) i 0) 0
-blank-all zero i = refl
-blank-all (suc n) zero = refl
-blank-all (suc n) (suc i) = blank-all n i
+every-reset p l g = absurd (not-both g (ap (λ (y : Channel). bound (y .phase)) (same-all idle 16 p)))
 
 none-asked : (j : ℕ) → request resetState j ≡ 0
 unfolding request reg field
-none-asked j = rw (blank-all 12 (hsrrOf j), zero-div (2 ^ (2 * (j % 8)))) refl
+none-asked j = rw (same-all {A = ℕ} 0 12 (hsrrOf j), zero-div (2 ^ (2 * (j % 8)))) refl
 
 lit-reset : Lit resetState
 unfolding stepping channel bound
 lit-reset =
     record {
-      seen = λ p j l g. absurd (not-both g (ap (λ (y : Channel). bound (y .phase)) (idle-all 16 p)));
-      rests = λ j l u i. absurd (not-both i (ap (λ (y : Channel). y .initialised) (idle-all 16 j)));
+      seen = λ p j l g. absurd (not-both g (ap (λ (y : Channel). bound (y .phase)) (same-all idle 16 p)));
+      rests = λ j l u i. absurd (not-both i (ap (λ (y : Channel). y .initialised) (same-all idle 16 j)));
       asked = λ j l q. absurd (let k : _≡_ {A = ℕ} 0 2 = sym (none-asked j) ∙ q in omega arith);
     }
 

@@ -26,7 +26,7 @@ use Rattle.unit.proofs.Chain.{gate-place}
 
 -- ---- calls and acts
 
-through-append : (s : State) (xs ys : List Act) → through s (xs ++ ys) ≡ through (through s xs) ys
+pub through-append : (s : State) (xs ys : List Act) → through s (xs ++ ys) ≡ through (through s xs) ys
 unfolding through
 through-append s [] ys = refl
 through-append s (x ∷ xs) ys = through-append (does x s) xs ys

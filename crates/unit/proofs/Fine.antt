@@ -3,7 +3,7 @@ use Prim.Native.Nat.{ℕ, zero, suc, _+_, _*_, _%_, _≤_, _<_}
 use native.Mathlib.Omega.{arith}
 use mathlib.Core.Bool.{Bool}
 use lib.Dec.{eqb}
-use lib.ListN.{getD, replicate}
+use lib.ListN.{getD}
 use Rattle.words.specs.Clock.{due}
 use Rattle.words.specs.Field.{withField}
 use Rattle.words.proofs.ChoiceLaws.{pick-cases}
@@ -24,7 +24,7 @@ use Rattle.unit.specs.TheUnit.{resetState, withReg, withTime, withPins, 
 use Rattle.unit.specs.Stepping.{pinOut, pinsOut, nextCount, turnedOnce, prepared, matchSet, stepped, outcome}
 use Rattle.unit.specs.OneTick.{matchOf, matched, initialise, stepRequest, requestServed, matchServed, served, clocked, tick}
 use Rattle.unit.specs.Gate.{requested, requestedOne, stored, done}
-use Rattle.unit.proofs.Reset.{Sized, sized-reset}
+use Rattle.unit.proofs.Reset.{same-all, Sized, sized-reset}
 use Rattle.unit.proofs.Access.{sized-reg, sized-time, sized-pin, sized-channel, sized-word}
 use Rattle.unit.proofs.Alone.{set-all}
 
@@ -32,13 +32,8 @@ pub record Fine (s : State) : Type 0 where
   pub sized : Sized s
   pub small : (i : ℕ) → getD (s .words) i 0 ≤ 0xffff
 
-zeros-small : (n i : ℕ) → getD (replicate n 0) i 0 ≤ 0xffff
-zeros-small zero i = omega arith
-zeros-small (suc n) zero = omega arith
-zeros-small (suc n) (suc i) = zeros-small n i
-
 pub fine-reset : Fine resetState
-fine-reset = record { sized = sized-reset; small = zeros-small 128 }
+fine-reset = record { sized = sized-reset; small = λ i. omega (arith, same-all {A = ℕ} 0 128 i) }
 
 pub small-word : (s : State) (c i : ℕ) → Fine s → word s c i ≤ 0xffff
 unfolding word

@@ -75,7 +75,7 @@ patterned-phase Requested m q h p = patterned-outcome _ (onRequest (m .motor)) q
 patterned-phase (Armed t) m q h p = p
 patterned-phase (Matched t) m q h p = patterned-outcome _ (onMatch (m .motor)) q h p
 
--- ---- and words 4 keeps its zeros
+-- ---- and word 4 keeps its zeros
 
 unfoldable Zeros : Part → Type 0
 Zeros q = otherwiseZero (q .fourth) ≡ true

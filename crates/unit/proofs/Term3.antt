@@ -43,7 +43,7 @@ use Rattle.unit.proofs.Writes.{masked, status-reg, AfterTarget, write-t
 use Rattle.unit.proofs.Fine.{Fine, fine-reset}
 use Rattle.unit.proofs.Chain.{Ahead, ahead, bound-stepping, seen, gate-place, target-place, running-held, Chained, chain}
 use Rattle.unit.proofs.Begin.{Begun, begin, set-going}
-use Rattle.unit.proofs.Calls.{Words, words-acts, words-first, words-second, fine-through}
+use Rattle.unit.proofs.Calls.{through-append, Words, words-acts, words-first, words-second, fine-through}
 use Rattle.unit.proofs.WholeSteps.{whole-steps}
 use Rattle.unit.specs.OneStep.{WholeSteps}
 
@@ -234,11 +234,6 @@ darkens r k = (λ b e. write-dark (r .c) (r .a) (r .v) (atRequest r) (started r 
 
 -- ---- the counts that document 01 names
 
-through-last : (xs : List Act) (x : Act) (s : State) → through s (xs ++ (x ∷ [])) ≡ does x (through s xs)
-unfolding through
-through-last [] x s = refl
-through-last (y ∷ xs) x s = through-last xs x (does y s)
-
 running-last : (c : ℕ) (xs : List Act) (x : Act) (s : State) → Running (moments c s (xs ++ (x ∷ []))) → Running (moments c s xs) × ((see c (through s xs)) .bound ≡ true)
 unfolding through moments Running
 running-last c [] x s r = (tt, r .0)
@@ -269,12 +264,13 @@ request-counts r k e run free =
     subst (λ g. Counted (firstPeriod (r .c) (through (atStart r) g)) (see (r .c) (atStart r)) (moments (r .c) (atStart r) g) (moments (r .c) (through (atStart r) g) (r .now))) e (counts r k run free)
 
 count-target : (r : Run) → Cut r → (earlier : List Act) (a v : ℕ) → r .gone ≡ earlier ++ (Writes a v ∷ []) → eventOf (r .c) (Writes a v) (through (atStart r) earlier) ≡ Target → target (atCount r) (r .c) ≡ v
+unfolding through
 count-target r k earlier a v e q =
     let b : Begun (r .c) (atStart r) = begun r k in
     let y : Running (moments (r .c) (atStart r) earlier) × ((see (r .c) (through (atStart r) earlier)) .bound ≡ true) =
     running-last (r .c) earlier (Writes a v) (atStart r) (subst (λ g. Running (moments (r .c) (atStart r) g)) e (k .running)) in
     let x : Chained (r .c) (atStart r) earlier = chain (r .c) earlier (atStart r) (ahead (r .c) (atStart r) (b .held)) (y .0) in
-    ap (λ g. target (through (atStart r) g) (r .c)) e ∙ ap (λ s. target s (r .c)) (through-last earlier (Writes a v) (atStart r))
+    ap (λ g. target (through (atStart r) g) (r .c)) e ∙ ap (λ s. target s (r .c)) (through-append (atStart r) earlier (Writes a v ∷ []))
     ∙ taken-target (r .c) a v (through (atStart r) earlier) (running-held (r .c) (through (atStart r) earlier) (x .ahead) (y .1)) q
 
 pub term-3 : Term3
