@@ -169,7 +169,3 @@ unfolding function
 function-reg s i v d h =
     let k : cfsrOf d ≤ 4 = cfsr-range d in
     ap (λ x. field 4 x (4 * (d % 4))) (reg-other s i v (cfsrOf d) (λ e. omega arith))
-
-pub function-first : (s : State) (i v d : ℕ) → i ≡ 0 → function (withReg s i v) d ≡ function s d
-unfolding function cfsrOf
-function-first s i v d h = ap (λ x. field 4 x (4 * (d % 4))) (reg-other s i v (cfsrOf d) (λ e. omega arith))

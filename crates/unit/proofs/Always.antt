@@ -29,9 +29,9 @@ use Rattle.unit.proofs.Lit.{Lit, ReachedBy, reached-by, tick-outcome, i
 use Rattle.unit.proofs.Reset.{same-all}
 use Rattle.unit.proofs.Fine.{Fine, fine-reset, fine-tick}
 use Rattle.unit.proofs.Chain.{tick-held}
-use Rattle.unit.proofs.Calls.{Words, words-acts, words-first, fine-write, fine-through}
+use Rattle.unit.proofs.Calls.{Words, words-acts, words-first}
 use Rattle.unit.proofs.Shown.{Every, shown-tick}
-use Rattle.unit.proofs.Every.{every-write, lit-write}
+use Rattle.unit.proofs.Every.{Good, good-write}
 
 -- ---- a tick, and many acts
 
@@ -41,12 +41,12 @@ every-tick s f e p l g =
     let h : Held p s × GroupShown p s = e p l ((fades-tick s (f .sized)) .still p g) in
     (tick-held p s (h .0) g, shown-tick p s f (h .0) (h .1))
 
-every-through : (xs : List Act) (s : State) → Words xs → Fine s → Every s → Lit s → Every (through s xs) × Lit (through s xs)
+good-through : (xs : List Act) (s : State) → Words xs → Good s → Good (through s xs)
 unfolding through does Words
-every-through [] s w f e y = (e, y)
-every-through (ticks ∷ xs) s w f e y = every-through xs (tick s) w (fine-tick s f) (every-tick s f e) (lit-tick s f e y)
-every-through (writes a v ∷ xs) s w f e y = every-through xs _ (w .1) (fine-write a v s (w .0) f) (every-write a v s f e y) (lit-write a v s f e y)
-every-through (nothing ∷ xs) s w f e y = every-through xs s w f e y
+good-through [] s w x = x
+good-through (ticks ∷ xs) s w x = good-through xs (tick s) w (fine-tick s (x .0), every-tick s (x .0) (x .1), lit-tick s (x .0) (x .1) (x .2))
+good-through (writes a v ∷ xs) s w x = good-through xs _ (w .1) (good-write a v s (w .0) x)
+good-through (nothing ∷ xs) s w x = good-through xs s w x
 
 every-reset : Every resetState
 unfolding Every stepping channel bound
@@ -70,16 +70,13 @@ lit-reset =
 state-words : (calls : List Call) (s : State) → (x : StateOf calls s) → Words (x .before)
 state-words calls s x = words-first (x .before) (x .rest) (subst Words (x .cut) (words-acts calls (x .typed)))
 
-state-fine : (calls : List Call) (s : State) → StateOf calls s → Fine s
-state-fine calls s x = subst Fine (sym (x .reached)) (fine-through (x .before) resetState (state-words calls s x) fine-reset)
-
-state-every : (calls : List Call) (s : State) → StateOf calls s → Every s × Lit s
-state-every calls s x = subst (λ w. Every w × Lit w) (sym (x .reached)) (every-through (x .before) resetState (state-words calls s x) fine-reset every-reset lit-reset)
+state-good : (calls : List Call) (s : State) → StateOf calls s → Good s
+state-good calls s x = subst Good (sym (x .reached)) (good-through (x .before) resetState (state-words calls s x) (fine-reset, every-reset, lit-reset))
 
 moves-only : (calls : List Call) (s : State) → StateOf calls s → (p : ℕ) → p < 16 → position (tick s) p ≢ position s p → (b : Bool) → stepping s p ≡ b → (stepping s p ≡ true) × GroupShown p s
 unfolding position Every
-moves-only calls s x p l n true t = (t, ((state-every calls s x) .0 p l t) .1)
-moves-only calls s x p l n false t = absurd (n ((fades-tick s (state-fine calls s x .sized)) .places p t))
+moves-only calls s x p l n true t = (t, ((state-good calls s x) .1 p l t) .1)
+moves-only calls s x p l n false t = absurd (n ((fades-tick s (state-good calls s x .0 .sized)) .places p t))
 
 -- ---- where a pin changes
 
@@ -111,19 +108,19 @@ module _ (j : ℕ) (s : State) (r : ReachedBy j s) (n : pin (tick s) j ≢ pin s
 pins-only : (calls : List Call) (s : State) → StateOf calls s → (j : ℕ) → j < 16 → pin (tick s) j ≢ pin s j → (b : Bool) → isBound s j ≡ b → ByInitialise j s ⊎ ByMatch j s
 unfolding part Every
 pins-only calls s x j l n true t =
-    let e : Every s = (state-every calls s x) .0 in
+    let e : Every s = (state-good calls s x) .1 in
     let r : ReachedBy j s = reached-by j s l e t in
-    inr (⊎-elim (stepped j s r n) (still j s r n) (tick-is (r .primary) s ((e (r .primary) (r .small) (r .up)) .0) (state-fine calls s x)))
+    inr (⊎-elim (stepped j s r n) (still j s r n) (tick-is (r .primary) s ((e (r .primary) (r .small) (r .up)) .0) ((state-good calls s x) .0)))
 pins-only calls s x j l n false t =
-    let y : Every s × Lit s = state-every calls s x in
-    ⊎-elim (λ q. absurd (n (ap (λ (z : Part). z .pin) q))) (λ q. inl (by-initialise j s l (y .1) q)) (tick-outcome s (state-fine calls s x) (y .0) (y .1) j l t)
+    let y : Good s = state-good calls s x in
+    ⊎-elim (λ q. absurd (n (ap (λ (z : Part). z .pin) q))) (λ q. inl (by-initialise j s l (y .2) q)) (tick-outcome s (y .0) (y .1) (y .2) j l t)
 
 pub always : Always
 unfolding Every channelControl
 always =
     record {
-      shown = λ calls s x p l g. ((state-every calls s x) .0 p l g) .1;
-      rests = λ calls s x j l u i. (state-every calls s x) .1 .rests j l u i;
+      shown = λ calls s x p l g. ((state-good calls s x) .1 p l g) .1;
+      rests = λ calls s x j l u i. (state-good calls s x) .2 .rests j l u i;
       pins = λ calls s x j l n. pins-only calls s x j l n (isBound s j) refl;
       moves = λ calls s x p l n. moves-only calls s x p l n (stepping s p) refl;
     }

@@ -7,10 +7,9 @@ use mathlib.Core.Path.{_≡_, refl, ap, sym, subst, _∙_}
 use mathlib.Core.Logic.{_≢_, inr, ⊎-elim}
 use lib.Dec.{ltb, leb, eqb}
 use lib.ListN.{length, List·getD-eq-default}
-use borrow.Author.Tests.{ltb-true, ltb-false, leb-true, eqb-true, le-leb, ne-eqb}
-use Rattle.words.specs.Choice.{ask}
+use borrow.Author.Tests.{ltb-true, ltb-false, leb-true, eqb-true}
 use Rattle.words.specs.Field.{field}
-use Rattle.words.proofs.ChoiceLaws.{pick-cases, ask-cases, fails, not-both, tests}
+use Rattle.words.proofs.ChoiceLaws.{pick-cases, not-both}
 use Rattle.motor.specs.declared.Way.{Way}
 use Rattle.motor.specs.declared.Way.the-variants.{Right, Left}
 use Rattle.motor.specs.declared.Phase.the-variants.{Requested}
@@ -20,9 +19,8 @@ use Rattle.motor.specs.Group.{Group, bound, altered, firstPeriod, SlowAtFirst, 
 use Rattle.motor.specs.GroupCount.{SetGoing}
 use Rattle.unit.specs.declared.State.{State}
 use Rattle.unit.specs.declared.Channel.{Channel}
-use Rattle.unit.specs.declared.Deed.the-variants.{Request}
-use Rattle.unit.specs.TheUnit.{idle, withReg, withChannel, each, any, cisr, hsrrOf, reg, request, withRequest, status, enabled, channel, withPhase, word, position, target, nextRate, top, last, cntl0, cntl1, size, stepping, reaches, isBound}
-use Rattle.unit.specs.Gate.{Place, AtRegister, AtWord, Nowhere, place, isFree, otherwiseZero, spanGood, isReady, groupReady, patternGood, rampGood, targetGood, requested, requestedOne, Asked, Yes, No, askStep, askChannel, andThen, askChannels, verdictOf, askRegister, askPlace, done}
+use Rattle.unit.specs.TheUnit.{idle, withReg, withChannel, each, any, hsrrOf, reg, request, withRequest, status, enabled, channel, withPhase, word, position, target, nextRate, top, last, cntl0, cntl1, size, stepping, reaches, isBound}
+use Rattle.unit.specs.Gate.{Place, AtRegister, AtWord, Nowhere, place, isFree, otherwiseZero, spanGood, isReady, groupReady, patternGood, rampGood, targetGood, requested, requestedOne, Asked, askChannel, andThen, askChannels, askRegister, askPlace}
 use Rattle.unit.specs.Calls.{answeredBy, writeOf}
 use Rattle.unit.specs.Moments.{Writes as writes, does, isTaken, isStepOf, SetsGoing}
 use Rattle.unit.proofs.Reset.{Sized}
@@ -32,9 +30,9 @@ use Rattle.unit.proofs.Frame.{sized-phase, sized-request}
 use Rattle.unit.proofs.Own.{View, viewIn, view, groupIn, NoneOrStep, Bound, own-phase, own-request}
 use Rattle.unit.proofs.Alone.{Alone, last-small}
 use Rattle.unit.proofs.Tests.{and-left, and-right, or-none, any-yes, all-yes}
-use Rattle.unit.proofs.Held.{Held, free-unbound, free-none, free-rests, ready-free, AfterAsked, after-channel}
-use Rattle.unit.proofs.Writes.{Requests, channels-ask, PlaceGood, place-good}
-use Rattle.unit.proofs.Fine.{Fine, small-word, fine-each, fine-requested}
+use Rattle.unit.proofs.Held.{Altered, free-still, Held, free-unbound, free-none, free-rests, ready-free, after-channel}
+use Rattle.unit.proofs.Walk.{IfYes, yes-map, yes-then, taken-yes, Allowed, walk-channel, channels-ask, walk-register, PlaceGood, place-good}
+use Rattle.unit.proofs.Fine.{Fine, small-word, fine-requests}
 use Rattle.unit.proofs.Chain.{gate-place}
 
 -- ---- a channel that is not bound is reached by no group
@@ -80,7 +78,7 @@ unfolding OnTrack
 slow-track Right p k e h = omega arith
 slow-track Left p k e h = omega arith
 
-module _ (c : ℕ) (s : State) (h : c < 16) (f : Fine s) (q2 : isFree s c ≡ true) (q5 : spanGood s c ≡ true) (q6 : groupReady s c ≡ true) (q7 : patternGood s c ≡ true) (q8 : rampGood (cntl0 s c) (cntl1 s c) (top s c) ≡ true) (q9 : targetGood s c (target s c) ≡ true) where
+module _ (c : ℕ) (s : State) (h : c < 16) (f : Fine s) (q : Allowed c s) where
   abbrev resting : State
   resting = withPhase s c ((channel s c) .way) Requested
 
@@ -94,7 +92,7 @@ module _ (c : ℕ) (s : State) (h : c < 16) (f : Fine s) (q2 : isFree s c ≡ tr
   wide : suc c ≤ last s c
   unfolding spanGood
   wide =
-      ltb-true c (last s c) (and-left (ltb c (last s c)) (leb (last s c) (c + 7)) (and-right (otherwiseZero (word s c 5) && (leb 1 (top s c) && leb (top s c) 14)) _ q5))
+      ltb-true c (last s c) (and-left (ltb c (last s c)) (leb (last s c) (c + 7)) (and-right (otherwiseZero (word s c 5) && (leb 1 (top s c) && leb (top s c) 14)) _ (q .span)))
 
   within : suc c < 16
   within = omega (arith, wide, last-small s c)
@@ -102,27 +100,27 @@ module _ (c : ℕ) (s : State) (h : c < 16) (f : Fine s) (q2 : isFree s c ≡ tr
   top-least : 1 ≤ top s c
   unfolding spanGood
   top-least =
-      leb-true 1 (top s c) (and-left (leb 1 (top s c)) (leb (top s c) 14) (and-right (otherwiseZero (word s c 5)) _ (and-left (otherwiseZero (word s c 5) && (leb 1 (top s c) && leb (top s c) 14)) _ q5)))
+      leb-true 1 (top s c) (and-left (leb 1 (top s c)) (leb (top s c) 14) (and-right (otherwiseZero (word s c 5)) _ (and-left (otherwiseZero (word s c 5) && (leb 1 (top s c) && leb (top s c) 14)) _ (q .span))))
 
   member-free : (i : ℕ) → c ≤ i → i ≤ last s c → isFree s i ≡ true
   unfolding groupReady size
-  member-free i a b = ready-free s i (all-yes (isReady s) i (size s c) c a (omega arith) q6)
+  member-free i a b = ready-free s i (all-yes (isReady s) i (size s c) c a (omega arith) (q .group))
 
   slow : nextRate s c ≡ 1
   unfolding patternGood
-  slow = eqb-true (nextRate s c) 1 (and-right (otherwiseZero (word s c 4)) (eqb (nextRate s c) 1) (and-left (otherwiseZero (word s c 4) && eqb (nextRate s c) 1) _ q7))
+  slow = eqb-true (nextRate s c) 1 (and-right (otherwiseZero (word s c 4)) (eqb (nextRate s c) 1) (and-left (otherwiseZero (word s c 4) && eqb (nextRate s c) 1) _ (q .pattern)))
 
   shortest : 1 ≤ period (cntl0 s c) (cntl1 s c) (top s c)
   unfolding rampGood
-  shortest = leb-true 1 (period (cntl0 s c) (cntl1 s c) (top s c)) (and-left _ (leb (period (cntl0 s c) (cntl1 s c) 1) 0x7fff) q8)
+  shortest = leb-true 1 (period (cntl0 s c) (cntl1 s c) (top s c)) (and-left _ (leb (period (cntl0 s c) (cntl1 s c) 1) 0x7fff) (q .ramp))
 
   longest : period (cntl0 s c) (cntl1 s c) 1 ≤ 0x7fff
   unfolding rampGood
-  longest = leb-true (period (cntl0 s c) (cntl1 s c) 1) 0x7fff (and-right (leb 1 (period (cntl0 s c) (cntl1 s c) (top s c))) _ q8)
+  longest = leb-true (period (cntl0 s c) (cntl1 s c) 1) 0x7fff (and-right (leb 1 (period (cntl0 s c) (cntl1 s c) (top s c))) _ (q .ramp))
 
   target-fits : target s c ≤ lastPosition
   unfolding targetGood
-  target-fits = omega (arith, leb-true (target s c) (lastPosition - top s c) q9)
+  target-fits = omega (arith, leb-true (target s c) (lastPosition - top s c) (q .target))
 
   -- what is seen after it
   abbrev seenAfter : View
@@ -185,24 +183,15 @@ module _ (c : ℕ) (s : State) (h : c < 16) (f : Fine s) (q2 : isFree s c ≡ tr
   unfolding stepping bound
   begun = record { held = record { sized = sized-started; seen = subst (Bound c) (sym view-started) bound-after; alone = alone-started; up = rw started-phase refl }; phase = started-phase }
 
+  pub begun-requested : Begun c (requested s c 3)
+  unfolding requested
+  begun-requested = rw (free-still c s (q .free)) begun
+
 -- ---- in an HSRR word
 
-unfoldable pub Begins : ℕ → Asked → Type 0
-Begins c (Yes w) = Begun c w
-Begins c (No n) = Unit {0}
-
-begins-question : (c : ℕ) (q : Bool) (n : ℕ) (k : Asked) → (q ≡ true → Begins c k) → Begins c (ask q (No n) k)
-unfolding Begins
-begins-question c q n k f = ask-cases (Begins c) q (No n) k tt f
-
-pub begin-here : (c : ℕ) (s : State) → c < 16 → Fine s → stepping s c ≡ false → Begins c (askStep s c)
-unfolding askStep Begins requested
-begin-here c s h f g =
-    pick-cases (Begins c) (stepping s c && eqb (request s c) 0)
-    (λ a. absurd (not-both (and-left (stepping s c) (eqb (request s c) 0) a) g))
-    (λ a. begins-question c (isFree s c) 2 _ (λ q2. begins-question c _ 3 _ (λ q3. begins-question c (spanGood s c) 5 _ (λ q5. begins-question c (groupReady s c) 6 _ (λ q6.
-    begins-question c (patternGood s c) 7 _ (λ q7. begins-question c (rampGood (cntl0 s c) (cntl1 s c) (top s c)) 8 _ (λ q8. begins-question c (targetGood s c (target s c)) 9 _ (λ q9.
-    rw g (begun c s h f q2 q5 q6 q7 q8 q9)))))))))
+begin-here : (r c : ℕ) (s : State) → r ≡ 3 → c < 16 → Fine s → stepping s c ≡ false → IfYes (Begun c) (askChannel r c s)
+begin-here r c s e h f g =
+    walk-channel (Begun c) r c s (λ a b. absurd (b e)) (λ a q2 q4. absurd (omega arith)) (λ a t. absurd (not-both t g)) (λ a q. begun-requested c s h f q)
 
 -- the requests of other channels leave its own record
 pub requested-other : (s : State) (j r c : ℕ) → c ≢ j → channel (requested s j r) c ≡ channel s c
@@ -216,59 +205,36 @@ unfolding each requestedOne
 below-leave zero a v s c h = refl
 below-leave (suc n) a v s c h = requested-other _ (a + n) _ c (omega arith) ∙ below-leave n a v s c (omega arith)
 
-fine-requests : (n a v : ℕ) (s : State) → Fine s → Fine (each n a (requestedOne v) s)
-unfolding requestedOne
-fine-requests n a v s f = fine-each n a (requestedOne v) (λ j t q. fine-requested t j _ q) s f
-
-later-begun : (c : ℕ) (w : State) (k : Asked) → Begun c w → AfterAsked c w k → Begins c k
-unfolding AfterAsked Begins view viewIn groupIn look altered
-later-begun c w (Yes x) b a = record { held = a .held; phase = ap (λ (g : Group). g .phase) (a .group) ∙ b .phase }
-later-begun c w (No n) b a = tt
-
-ask-three : (r c : ℕ) (s : State) → r ≡ 3 → askChannel r c s ≡ askStep s c
-unfolding askChannel
-ask-three r c s e = rw e
+still-begun : (c : ℕ) (w x : State) → Begun c w → Altered c x w → Begun c x
+unfolding view viewIn groupIn look altered
+still-begun c w x b a = record { held = a .held; phase = ap (λ (g : Group). g .phase) (a .group) ∙ b .phase }
 
 -- the channels below c have been asked, and c is next
-begin-next : (n a c v : ℕ) (s : State) (k : Asked) → c ≡ a + n → c < 16 → field 2 v (2 * (c % 8)) ≡ 3 → Fine s → stepping s c ≡ false → Requests n a v s k
-    → Begins c (andThen k (askChannel (field 2 v (2 * ((a + n) % 8))) (a + n)))
-unfolding andThen Begins Requests stepping
-begin-next n a c v s (No m) z h e f g r = tt
-begin-next n a c v s (Yes w) z h e f g r =
-    let fw : Fine w = subst Fine r (fine-requests n a v s f) in
+begin-next : (n a c v : ℕ) (s : State) → c ≡ a + n → c < 16 → field 2 v (2 * (c % 8)) ≡ 3 → Fine s → stepping s c ≡ false
+    → IfYes (Begun c) (andThen (askChannels n a v s) (askChannel (field 2 v (2 * ((a + n) % 8))) (a + n)))
+unfolding stepping
+begin-next n a c v s z h e f g =
+    yes-then (λ w. each n a (requestedOne v) s ≡ w) (Begun c) (askChannels n a v s) (askChannel (field 2 v (2 * ((a + n) % 8))) (a + n)) (channels-ask n a v s)
+    (λ w r. let fw : Fine w = subst Fine r (fine-requests n a v s f) in
     let cw : channel w c ≡ channel s c = subst (λ x. channel x c ≡ channel s c) r (below-leave n a v s c (omega arith)) in
-    subst (λ x. Begins c (askChannel (field 2 v (2 * (x % 8))) x w)) z
-    (subst (Begins c) (sym (ask-three (field 2 v (2 * (c % 8))) c w e)) (begin-here c w h fw (ap (λ (x : Channel). bound (x .phase)) cw ∙ g)))
+    subst (λ x. IfYes (Begun c) (askChannel (field 2 v (2 * (x % 8))) x w)) z (begin-here (field 2 v (2 * (c % 8))) c w e h fw (ap (λ (x : Channel). bound (x .phase)) cw ∙ g)))
 
 -- c has been asked, and a channel above it is next
-begin-later : (c r j : ℕ) (k : Asked) → j < 16 → Begins c k → Begins c (andThen k (askChannel r j))
-unfolding andThen Begins
-begin-later c r j (No m) h b = tt
-begin-later c r j (Yes w) h b = later-begun c w (askChannel r j w) b (after-channel c w r j h (b .held))
+begin-later : (c r j : ℕ) (k : Asked) → j < 16 → IfYes (Begun c) k → IfYes (Begun c) (andThen k (askChannel r j))
+begin-later c r j k h b =
+    yes-then (Begun c) (Begun c) k (askChannel r j) b (λ w y. yes-map (λ x. Altered c x w) (Begun c) (askChannel r j w) (λ x a. still-begun c w x y a) (after-channel c w r j h (y .held)))
 
-begin-word : (n a c v : ℕ) (s : State) → a ≤ c → c < a + n → a + n ≤ 16 → field 2 v (2 * (c % 8)) ≡ 3 → Fine s → stepping s c ≡ false → Begins c (askChannels n a v s)
+begin-word : (n a c v : ℕ) (s : State) → a ≤ c → c < a + n → a + n ≤ 16 → field 2 v (2 * (c % 8)) ≡ 3 → Fine s → stepping s c ≡ false → IfYes (Begun c) (askChannels n a v s)
 unfolding askChannels
 begin-word zero a c v s p q l e f g = absurd (omega arith)
 begin-word (suc n) a c v s p q l e f g =
     let m : c ≤ a + n = omega arith in
     ⊎-elim
-    (λ z. begin-next n a c v s (askChannels n a v s) z (omega arith) e f g (channels-ask n a v s))
+    (λ z. begin-next n a c v s z (omega arith) e f g)
     (λ z. begin-later c (field 2 v (2 * ((a + n) % 8))) (a + n) (askChannels n a v s) (omega arith) (begin-word n a c v s p z (omega arith) e f g))
     (eq-or-lt-of-le m)
 
 -- ---- the write
-
--- the two request registers are asked channel by channel
-asks-requests : (s : State) (i v : ℕ) → 7 ≤ i → i ≤ 8 → askRegister s i v ≡ verdictOf (askChannels 8 (8 * (8 - i)) v s) (Request (8 * (8 - i)) v)
-unfolding askRegister
-asks-requests s i v h l =
-    rw (ne-eqb i cisr (λ e. omega arith), le-leb 1 i (omega arith), fails (leb i 4) (λ e. omega (arith, tests)), le-leb 7 i h, le-leb i 8 l)
-
-begun-answer : (c : ℕ) (s : State) (a v : ℕ) (k : Asked) → Begins c k → Requests 8 a v s k → isTaken ((answeredBy (verdictOf k (Request a v)) s) .answer) ≡ true
-    → Begun c ((answeredBy (verdictOf k (Request a v)) s) .state)
-unfolding Begins Requests answeredBy verdictOf isTaken done
-begun-answer c s a v (Yes w) b r t = subst (Begun c) (sym r) b
-begun-answer c s a v (No n) b r t = absurd (not-both t refl)
 
 begin-place : (c v : ℕ) (p : Place) (s : State) → PlaceGood p → isStepOf c v p ≡ true → Fine s → stepping s c ≡ false
     → isTaken ((answeredBy (askPlace s p v) s) .answer) ≡ true → Begun c ((answeredBy (askPlace s p v) s) .state)
@@ -280,10 +246,15 @@ begin-place c v (AtRegister i) s ok e f g t =
     let b : (ltb c 16 && eqb (field 2 v (2 * (c % 8))) 3) ≡ true = and-right (eqb i (hsrrOf c)) _ e in
     let h : c < 16 = ltb-true c 16 (and-left (ltb c 16) (eqb (field 2 v (2 * (c % 8))) 3) b) in
     let r : field 2 v (2 * (c % 8)) ≡ 3 = eqb-true (field 2 v (2 * (c % 8))) 3 (and-right (ltb c 16) (eqb (field 2 v (2 * (c % 8))) 3) b) in
-    let q : askRegister s i v ≡ verdictOf (askChannels 8 (8 * (8 - i)) v s) (Request (8 * (8 - i)) v) = asks-requests s i v (omega arith) (omega arith) in
-    subst (λ k. isTaken ((answeredBy k s) .answer) ≡ true → Begun c ((answeredBy k s) .state)) (sym q)
-    (begun-answer c s (8 * (8 - i)) v (askChannels 8 (8 * (8 - i)) v s)
-    (begin-word 8 (8 * (8 - i)) c v s (omega arith) (omega arith) (omega arith) r f g) (channels-ask 8 (8 * (8 - i)) v s)) t
+    taken-yes (Begun c) s (askRegister s i v)
+    (walk-register (Begun c) s i v
+    record {
+      keep = λ m. absurd (omega arith);
+      plain = λ m n o. absurd (⊎-elim (λ y. omega arith) (λ y. omega arith) o);
+      functions = λ m n o. absurd (omega arith);
+      requests = λ m n. begin-word 8 (8 * (8 - i)) c v s (omega arith) (omega arith) (omega arith) r f g;
+    })
+    t
 
 pub unbound-still : (c : ℕ) (s : State) → isBound s c ≡ false → stepping s c ≡ false
 unfolding isBound

@@ -1,27 +1,25 @@
 -- A list of calls and what happens in it; refused calls change nothing; the states of a history are fine.
-use Prim.Native.Nat.{ℕ, zero, suc, _+_, _*_, _≤_}
+use Prim.Native.Nat.{ℕ, zero, suc, _≤_}
 use native.Mathlib.Omega.{arith}
-use mathlib.Core.Bool.{Bool, true, false, _&&_}
+use mathlib.Core.Bool.{Bool, true, false}
 use mathlib.Core.List.{List, [], _∷_, _++_}
 use mathlib.Core.Path.{_≡_, refl, ap, sym, _∙_}
-use lib.Dec.{eqb, leb}
 use lib.ListN.{drop, replicate}
-use Rattle.words.specs.Choice.{pick, ask}
-use Rattle.words.proofs.ChoiceLaws.{pick-cases, ask-cases}
+use Rattle.words.specs.Choice.{pick}
+use Rattle.words.proofs.ChoiceLaws.{pick-cases}
 use Rattle.unit.specs.declared.State.{State}
-use Rattle.unit.specs.declared.Deed.the-variants.{Parameter, Register, Request}
 use Rattle.unit.specs.declared.Verdict.{Verdict}
 use Rattle.unit.specs.declared.Verdict.the-variants.{Taken as Does, Refused as Stops}
 use Rattle.unit.specs.declared.Answer.the-variants.{Taken, Refused}
 use Rattle.unit.specs.declared.Answered.{Answered}
-use Rattle.unit.specs.TheUnit.{cisr, exists, stepping}
 use Rattle.unit.specs.OneTick.{tick, afterTicks}
-use Rattle.unit.specs.Gate.{Place, AtRegister, AtWord, Nowhere, place, isFree, targetGood, Asked, Yes, No, askChannels, verdictOf, askRegister, askWord, askPlace, gate, advanceGood}
+use Rattle.unit.specs.Gate.{place, askPlace, gate, advanceGood}
 use Rattle.unit.specs.Calls.{answeredBy, writeOf, advanceOf, pinWords, lentAfter, Call, Read, Write, Advance, run}
 use Rattle.unit.specs.Calls as calls
 use Rattle.unit.specs.Moments.{Act, Ticks, Writes, Nothing as nothing, actsOf, acts, does, through, Typed}
 use Rattle.unit.specs.Term3.{CallsAre}
-use Rattle.unit.proofs.Fine.{Fine, SmallDeed, fine-done, fine-tick}
+use Rattle.unit.proofs.Fine.{Fine, fine-place, fine-tick}
+use Rattle.unit.proofs.Walk.{taken-answer, place-good}
 use Rattle.unit.proofs.Chain.{gate-place}
 
 -- ---- calls and acts
@@ -122,39 +120,9 @@ words-second (Ticks ∷ xs) ys w = words-second xs ys w
 words-second (Writes a v ∷ xs) ys w = words-second xs ys (w .1)
 words-second (nothing ∷ xs) ys w = words-second xs ys w
 
-unfoldable SmallVerdict : Verdict → Type 0
-SmallVerdict (Does d) = SmallDeed d
-SmallVerdict (Stops n) = Unit {0}
-
-small-question : (q : Bool) (n : ℕ) (k : Verdict) → SmallVerdict k → SmallVerdict (ask q (Stops n) k)
-unfolding SmallVerdict
-small-question q n k f = ask-cases SmallVerdict q (Stops n) k tt (λ e. f)
-
-small-asked : (k : Asked) (a v : ℕ) → SmallVerdict (verdictOf k (Request a v))
-unfolding SmallVerdict SmallDeed verdictOf
-small-asked (Yes s) a v = tt
-small-asked (No n) a v = tt
-
-small-place : (s : State) (p : Place) (v : ℕ) → v ≤ 0xffff → SmallVerdict (askPlace s p v)
-unfolding askPlace askRegister askWord SmallVerdict SmallDeed
-small-place s (AtRegister i) v h =
-    pick-cases SmallVerdict (eqb i cisr) (λ a. tt)
-    (λ a. pick-cases SmallVerdict (leb 1 i && leb i 4) (λ b. small-question _ 2 (Does (Register i v)) tt)
-    (λ b. pick-cases SmallVerdict (leb 7 i && leb i 8) (λ d. small-asked (askChannels 8 _ v s) _ v) (λ d. tt)))
-small-place s (AtWord c i) v h =
-    pick-cases SmallVerdict (exists c i)
-    (λ a. pick-cases SmallVerdict (eqb i 3 && stepping s c) (λ b. small-question (targetGood s c v) 9 (Does (Parameter (8 * c + i) v)) h) (λ b. small-question (isFree s c) 2 (Does (Parameter (8 * c + i) v)) h))
-    (λ a. tt)
-small-place s Nowhere v h = tt
-
-fine-answer : (k : Verdict) (s : State) → SmallVerdict k → Fine s → Fine ((answeredBy k s) .state)
-unfolding answeredBy SmallVerdict
-fine-answer (Does d) s h f = fine-done d s h f
-fine-answer (Stops n) s h f = f
-
 pub fine-write : (a v : ℕ) (s : State) → v ≤ 0xffff → Fine s → Fine ((writeOf s a v) .state)
 unfolding writeOf
-fine-write a v s h f = rw (gate-place s a v) (fine-answer (askPlace s (place a) v) s (small-place s (place a) v h) f)
+fine-write a v s h f = rw (gate-place s a v) (taken-answer Fine s (askPlace s (place a) v) f (fine-place s (place a) v h f (place-good a)))
 
 pub fine-through : (xs : List Act) (s : State) → Words xs → Fine s → Fine (through s xs)
 unfolding Words through does

@@ -31,7 +31,8 @@ use Rattle.unit.proofs.Ticks.{viewTicked, view-tick, sized-tick}
 use Rattle.unit.proofs.Alone.{Alone, alone-fades, fades-tick}
 use Rattle.unit.proofs.Tests.{and-left, and-right, any-no}
 use Rattle.unit.proofs.Held.{Held, Altered, altered-refl}
-use Rattle.unit.proofs.Writes.{AfterVerdict, AfterTarget, Aimed, write-target, write-place, PlaceGood, place-good}
+use Rattle.unit.proofs.Walk.{IfTaken, PlaceGood, place-good}
+use Rattle.unit.proofs.Writes.{Aimed, write-target, write-place}
 
 -- ---- a primary with its group to itself is bound just while its group is under way
 
@@ -127,13 +128,13 @@ acts-tick c s h =
       ahead = record { alone = alone-fades c s (tick s) (fades-tick s (h .sized)) (h .alone); held = tick-held c s h; served = tick-served c s h };
     }
 
-acts-verdict : (c : ℕ) (s : State) → Held c s → (k : Verdict) → AfterVerdict c s k → Acts c s ((answeredBy k s) .state) Other
-unfolding AfterVerdict answeredBy
+acts-verdict : (c : ℕ) (s : State) → Held c s → (k : Verdict) → IfTaken (λ w. Altered c w s) s k → Acts c s ((answeredBy k s) .state) Other
+unfolding IfTaken answeredBy
 acts-verdict c s h (Does d) a = acts-altered c s (done d s) a
 acts-verdict c s h (Stops n) a = acts-altered c s s (altered-refl c s h)
 
-acts-target : (c t : ℕ) (s : State) → Held c s → (k : Verdict) → AfterTarget c s t k → Acts c s ((answeredBy k s) .state) (pick (isTaken ((answeredBy k s) .answer)) Target Other)
-unfolding AfterTarget answeredBy isTaken
+acts-target : (c t : ℕ) (s : State) → Held c s → (k : Verdict) → IfTaken (λ w. Aimed c w s t) s k → Acts c s ((answeredBy k s) .state) (pick (isTaken ((answeredBy k s) .answer)) Target Other)
+unfolding IfTaken answeredBy isTaken
 acts-target c t s h (Does d) a = acts-aimed c t s (done d s) a
 acts-target c t s h (Stops n) a = acts-altered c s s (altered-refl c s h)
 

@@ -18,12 +18,11 @@ use Rattle.motor.specs.declared.Outcome.the-variants.{Arrived, Step}
 use Rattle.motor.specs.Stepping.{beside}
 use Rattle.unit.specs.declared.State.{State}
 use Rattle.unit.specs.declared.Channel.{Channel}
-use Rattle.unit.specs.declared.Deed.{Deed}
-use Rattle.unit.specs.declared.Deed.the-variants.{Nothing, Parameter, Register, Keep, Request}
-use Rattle.unit.specs.TheUnit.{resetState, withReg, withTime, withPins, withChannel, withWords, each, request, withRequest, enabled, withStatus, withPin, withInitialised, withLevel, withPhase, word, withWord, channelControl, pinControl, modCount, size, stepping}
+use Rattle.unit.specs.TheUnit.{cisr, resetState, withReg, withTime, withPins, withChannel, withWords, each, request, withRequest, enabled, withStatus, withPin, withInitialised, withLevel, withPhase, word, withWord, channelControl, pinControl, modCount, size, stepping}
 use Rattle.unit.specs.Stepping.{pinOut, pinsOut, nextCount, turnedOnce, prepared, matchSet, stepped, outcome}
 use Rattle.unit.specs.OneTick.{matchOf, matched, initialise, stepRequest, requestServed, matchServed, served, clocked, tick}
-use Rattle.unit.specs.Gate.{requested, requestedOne, stored, done}
+use Rattle.unit.specs.Gate.{Place, askPlace, requested, requestedOne, stored}
+use Rattle.unit.proofs.Walk.{IfTaken, word-yes, PlaceGood, walk-place}
 use Rattle.unit.proofs.Reset.{same-all, Sized, sized-reset}
 use Rattle.unit.proofs.Access.{sized-reg, sized-time, sized-pin, sized-channel, sized-word}
 use Rattle.unit.proofs.Alone.{set-all}
@@ -168,18 +167,17 @@ fine-requested s c r f =
     pick-cases Fine (eqb r 2) (λ a. fine-request s c 2 f)
     (λ a. pick-cases Fine (eqb r 3) (λ b. fine-request _ c 3 (pick-cases Fine (stepping s c) (λ t. f) (λ t. fine-phase s c _ _ f))) (λ b. f))
 
--- the value that a deed stores is a word
-unfoldable pub SmallDeed : Deed → Type 0
-SmallDeed Nothing = Unit {0}
-SmallDeed (Parameter at v) = v ≤ 0xffff
-SmallDeed (Register i v) = Unit {0}
-SmallDeed (Keep v) = Unit {0}
-SmallDeed (Request a v) = Unit {0}
+pub fine-requests : (n a v : ℕ) (s : State) → Fine s → Fine (each n a (requestedOne v) s)
+unfolding requestedOne
+fine-requests n a v s f = fine-each n a (requestedOne v) (λ j t q. fine-requested t j _ q) s f
 
-pub fine-done : (d : Deed) (s : State) → SmallDeed d → Fine s → Fine (done d s)
-unfolding done SmallDeed stored withInitialised requestedOne
-fine-done Nothing s h f = f
-fine-done (Parameter at v) s h f = pick-cases Fine (eqb (at % 8) 0) (λ a. fine-channel _ _ _ (fine-word s _ _ v h f)) (λ a. fine-word s _ _ v h f)
-fine-done (Register i v) s h f = fine-reg s i v f
-fine-done (Keep v) s h f = fine-reg s _ _ f
-fine-done (Request a v) s h f = fine-each 8 a (requestedOne v) (λ j t q. fine-requested t j _ q) s f
+fine-stored : (s : State) (at v : ℕ) → v ≤ 0xffff → Fine s → Fine (stored s at v)
+unfolding stored withInitialised
+fine-stored s at v h f = pick-cases Fine (eqb (at % 8) 0) (λ a. fine-channel _ _ _ (fine-word s _ _ v h f)) (λ a. fine-word s _ _ v h f)
+
+pub fine-place : (s : State) (p : Place) (v : ℕ) → v ≤ 0xffff → Fine s → PlaceGood p → IfTaken Fine s (askPlace s p v)
+fine-place s p v h f g =
+    walk-place Fine s p v
+    (λ i e l. record { keep = λ q. fine-reg s cisr _ f; plain = λ q m n. fine-reg s i v f; functions = λ a b q. fine-reg s i v f; requests = λ a b. word-yes Fine 8 _ v s (fine-requests 8 _ v s f) })
+    (λ c i e m l. record { missing = λ x. f; target = λ q k n. fine-stored s _ v h f; free = λ q. fine-stored s _ v h f })
+    g

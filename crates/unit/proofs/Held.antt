@@ -1,14 +1,13 @@
 -- A bound primary that is held: what a taken request leaves of it.
-use Prim.Native.Nat.{ℕ, zero, suc, _+_, _*_, _%_, _≤_, _<_}
+use Prim.Native.Nat.{ℕ, suc, _+_, _*_, _%_, _≤_, _<_}
 use native.Mathlib.Omega.{arith}
 use mathlib.Core.Bool.{Bool, true, false, not, _&&_}
 use mathlib.Core.Path.{_≡_, refl, ap, sym, subst, _∙_}
 use mathlib.Core.Logic.{_≢_, _⊎_, inl, inr, ⊎-elim}
 use lib.Dec.{leb, eqb}
 use borrow.Author.Tests.{leb-true, le-leb, eqb-true, eqb-false}
-use Rattle.words.specs.Choice.{ask}
 use Rattle.words.specs.Field.{field}
-use Rattle.words.proofs.ChoiceLaws.{pick-cases, ask-cases, not-both}
+use Rattle.words.proofs.ChoiceLaws.{not-both}
 use Rattle.motor.specs.declared.Way.{Way}
 use Rattle.motor.specs.declared.Phase.{Phase}
 use Rattle.motor.specs.declared.Phase.the-variants.{Resting, Requested}
@@ -17,13 +16,14 @@ use Rattle.motor.proofs.Counts.{altered-sound, unbound-rests}
 use Rattle.unit.specs.declared.Channel.{Channel}
 use Rattle.unit.specs.declared.State.{State}
 use Rattle.unit.specs.TheUnit.{idle, withReg, withChannel, request, withRequest, enabled, status, channel, withPhase, word, last, size, stepping, reaches, isBound, reg}
-use Rattle.unit.specs.Gate.{isFree, isStepper, isReady, groupReady, requested, Asked, Yes, No, askInitialise, askStep, askChannel, andThen, askChannels}
+use Rattle.unit.specs.Gate.{isFree, isStepper, isReady, groupReady, requested, askChannel, askChannels}
 use Rattle.unit.proofs.Reset.{Sized}
 use Rattle.unit.proofs.Access.{request-other}
 use Rattle.unit.proofs.Look.{Look, look, look-phase-far, look-request-other}
 use Rattle.unit.proofs.Frame.{sized-phase, sized-request}
 use Rattle.unit.proofs.Own.{viewIn, view, groupIn, NoneOrStep, Bound, own-request}
 use Rattle.unit.proofs.Alone.{Alone, set-all, last-small}
+use Rattle.unit.proofs.Walk.{IfYes, yes-map, walk-channel, walk-channels}
 use Rattle.unit.proofs.Tests.{and-left, and-right, and-no, or-left, or-right, not-yes, any-yes, all-yes}
 
 pub record Held (c : ℕ) (s : State) : Type 0 where
@@ -211,42 +211,11 @@ step-first c j s hj h f q =
 
 -- ---- an HSRR word, channel by channel
 
-unfoldable pub AfterAsked : ℕ → State → Asked → Type 0
-AfterAsked c s (Yes w) = Altered c w s
-AfterAsked c s (No n) = Unit {0}
+pub after-channel : (c : ℕ) (s : State) (r j : ℕ) → j < 16 → Held c s → IfYes (λ w. Altered c w s) (askChannel r j s)
+after-channel c s r j hj h =
+    walk-channel (λ w. Altered c w s) r j s (λ a b. altered-refl c s h) (λ e q2 q4. initialise-asked c j s hj h q2) (λ e g. step-again c j s hj h g) (λ e q. step-first c j s hj h (q .free) (q .group))
 
-module _ (c : ℕ) (s : State) where
-  after-ask : (q : Bool) (n : ℕ) (k : Asked) → (q ≡ true → AfterAsked c s k) → AfterAsked c s (ask q (No n) k)
-  unfolding AfterAsked
-  after-ask q n k f = ask-cases (AfterAsked c s) q (No n) k tt f
-
-  after-initialise : (j : ℕ) → j < 16 → Held c s → AfterAsked c s (askInitialise s j)
-  unfolding askInitialise AfterAsked
-  after-initialise j hj h = after-ask _ 2 _ (λ q2. after-ask _ 3 _ (λ q3. after-ask _ 4 _ (λ q4. initialise-asked c j s hj h q2)))
-
-  after-step : (j : ℕ) → j < 16 → Held c s → AfterAsked c s (askStep s j)
-  unfolding askStep AfterAsked
-  after-step j hj h =
-      pick-cases (AfterAsked c s) (stepping s j && eqb (request s j) 0)
-      (λ a. after-ask _ 3 _ (λ q3. step-again c j s hj h (and-left (stepping s j) (eqb (request s j) 0) a)))
-      (λ a. after-ask _ 2 _ (λ q2. after-ask _ 3 _ (λ q3. after-ask _ 5 _ (λ q5. after-ask _ 6 _ (λ q6. after-ask _ 7 _ (λ q7. after-ask _ 8 _ (λ q8. after-ask _ 9 _ (λ q9. step-first c j s hj h q2 q6))))))))
-
-  pub after-channel : (r j : ℕ) → j < 16 → Held c s → AfterAsked c s (askChannel r j s)
-  unfolding askChannel AfterAsked
-  after-channel r j hj h =
-      pick-cases (AfterAsked c s) (eqb r 2) (λ a. after-initialise j hj h) (λ a. pick-cases (AfterAsked c s) (eqb r 3) (λ b. after-step j hj h) (λ b. altered-refl c s h))
-
-after-then : (c : ℕ) (s : State) (a : Asked) (f : State → Asked) → AfterAsked c s a → ((w : State) → Held c w → AfterAsked c w (f w)) → AfterAsked c s (andThen a f)
-unfolding andThen AfterAsked
-after-then c s (No n) f a g = tt
-after-then c s (Yes w) f a g = by (f w) (g w (a .held))
-  where
-    by : (k : Asked) → AfterAsked c w k → AfterAsked c s k
-    by (Yes x) b = altered-trans c x w s b a
-    by (No n) b = tt
-
-pub after-channels : (c n a v : ℕ) (s : State) → a + n ≤ 16 → Held c s → AfterAsked c s (askChannels n a v s)
-unfolding askChannels AfterAsked
-after-channels c zero a v s l h = altered-refl c s h
-after-channels c (suc n) a v s l h =
-    after-then c s (askChannels n a v s) _ (after-channels c n a v s (omega arith) h) (λ w g. after-channel c w (field 2 v (2 * ((a + n) % 8))) (a + n) (omega arith) g)
+pub after-channels : (c n a v : ℕ) (s : State) → a + n ≤ 16 → Held c s → IfYes (λ w. Altered c w s) (askChannels n a v s)
+after-channels c n a v s l h =
+    walk-channels (λ w. Altered c w s) n a v s l (altered-refl c s h)
+    (λ i t m x. yes-map (λ w. Altered c w t) (λ w. Altered c w s) (askChannel (field 2 v (2 * (i % 8))) i t) (λ w y. altered-trans c w t s y x) (after-channel c t (field 2 v (2 * (i % 8))) i m (x .held)))

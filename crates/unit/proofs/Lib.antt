@@ -6,6 +6,7 @@ pub mod Own
 pub mod Ticks
 pub mod Alone
 pub mod Tests
+pub mod Walk
 pub mod Held
 pub mod Writes
 pub mod Fine

@@ -22,10 +22,11 @@ use Rattle.unit.proofs.Access.{sized-word, channel-keeps, channel-other
 use Rattle.unit.proofs.Alone.{last-small}
 use Rattle.unit.proofs.Tests.{and-left, and-right, and-no}
 use Rattle.unit.proofs.Held.{free-outside, Held, free-unbound, free-none, free-still, still-reach}
-use Rattle.unit.proofs.Writes.{NotRequests, request-reg, stored-at, sized-initialised}
+use Rattle.unit.proofs.Walk.{NotRequests}
+use Rattle.unit.proofs.Writes.{request-reg, stored-at, sized-initialised}
 use Rattle.unit.proofs.Begin.{stepping-small, unreached, unbound-still}
 use Rattle.unit.proofs.Parts.{part, part-phase}
-use Rattle.unit.proofs.Leaves.{word-leaves, steady-stored}
+use Rattle.unit.proofs.Leaves.{word-leaves}
 use Rattle.unit.proofs.Shown.{Every, Over, Kept, over-stored}
 use Rattle.unit.proofs.Pins.{Seen}
 use Rattle.unit.proofs.Lit.{Lit, is-unbound}
@@ -200,7 +201,7 @@ module _ (s : State) (c i v : ℕ) (h : c < 16) (l : i < 8) (z : Sized s) (e : E
   part-after p j g a b =
       let y : Over p s after = over p g in
       let k : Kept j s after = y .members j a b in
-      let q : after .pins ≡ s .pins = (steady-stored s (8 * c + i) v) .0 in
+      let q : after .pins ≡ s .pins = leaves .pins in
       λ t. record { control = k .control t; source = k .source t; level = leaves .levels j t; pin = bitOf (q t) j; initialised = k .initialised t; fourth = y .fourth t }
 
   set-after : (j : ℕ) → (channel after j) .initialised ≡ true → ((channel s j) .initialised ≡ true) × (word after j 0 ≡ word s j 0)
@@ -230,7 +231,7 @@ module _ (s : State) (c i v : ℕ) (h : c < 16) (l : i < 8) (z : Sized s) (e : E
       record {
         phases = leaves .stepping;
         regs = leaves .registers;
-        pins = (steady-stored s (8 * c + i) v) .0;
+        pins = leaves .pins;
         spans = λ p g. ap (λ k. field 4 k 0) ((over p g) .fifth);
         parts = part-after;
         set = set-after;

@@ -4,13 +4,13 @@ use native.Mathlib.Omega.{arith}
 use mathlib.Core.Bool.{Bool, true, false, _&&_}
 use mathlib.Core.Path.{_≡_, refl, ap, sym, subst, _∙_}
 use mathlib.Core.Logic.{_≢_, _⊎_, inl, inr, ⊎-elim}
+use lib.ListN.{getD}
 use lib.Dec.{eqb, leb, ltb}
-use borrow.Author.Tests.{eqb-true, eqb-false, leb-true, leb-false}
-use Rattle.words.specs.Choice.{ask}
+use borrow.Author.Tests.{eqb-true, eqb-false}
 use Rattle.words.specs.Clock.{later}
 use Rattle.words.specs.Field.{field, withField}
 use Rattle.words.specs.Rotation.{rotatedRight}
-use Rattle.words.proofs.ChoiceLaws.{pick-cases, ask-cases}
+use Rattle.words.proofs.ChoiceLaws.{pick-cases}
 use Rattle.words.proofs.FieldLaws.{field-lt, field-above, field-below}
 use Rattle.words.proofs.RotationLaws.{right-none, right-next, left-next, left-is-right}
 use Rattle.motor.specs.declared.Way.{Way}
@@ -23,21 +23,21 @@ use Rattle.motor.specs.Stepping.{onRequest, onMatch}
 use Rattle.motor.specs.Group.{Group}
 use Rattle.unit.specs.declared.State.{State}
 use Rattle.unit.specs.declared.Channel.{Channel}
-use Rattle.unit.specs.TheUnit.{each, withReg, withRequest, withPhase, withChannel, withInitialised, withWord, withWords, all, cfsrOf, hsrrOf, cisr, reg, exists, top, function, channel, word, channelControl, pinControl, modCount, last, stepping}
+use Rattle.unit.specs.TheUnit.{each, withReg, withChannel, withInitialised, withWord, withWords, all, cfsrOf, hsrrOf, cisr, reg, top, function, channel, word, channelControl, pinControl, modCount, last, stepping}
 use Rattle.unit.specs.Stepping.{nextCount, turnedOnce}
 use Rattle.unit.specs.OneStep.{actsAt}
 use Rattle.unit.specs.OneTick.{matched, clocked, tick}
-use Rattle.unit.specs.declared.Deed.the-variants.{Parameter, Register, Request}
-use Rattle.unit.specs.declared.Verdict.{Verdict}
-use Rattle.unit.specs.declared.Verdict.the-variants.{Taken as Does, Refused as Stops}
-use Rattle.unit.specs.Gate.{Place, AtRegister, AtWord, Nowhere, isFree, otherwiseZero, spanGood, requested, requestedOne, Asked, Yes, No, askChannels, verdictOf, keepsOrFree, askRegister, askWord, askPlace, stored, done}
-use Rattle.unit.proofs.Access.{channel-keeps, channel-other, word-other, reg-same, reg-other, hsrr-range, function-reg, function-first}
+use Rattle.unit.specs.Gate.{Place, otherwiseZero, spanGood, requested, keepsOrFree, askPlace, stored}
+use Rattle.unit.proofs.Access.{channel-other, word-other, reg-same, reg-other, hsrr-range}
 use Rattle.unit.specs.Always.{ChannelShown, GroupShown}
 use Rattle.unit.proofs.Alone.{Fades, fades-tick, same-last, last-small}
 use Rattle.unit.proofs.Own.{View, view}
-use Rattle.unit.proofs.Tests.{and-left, and-right, all-yes}
+use Rattle.unit.proofs.Tests.{all-yes}
 use Rattle.unit.proofs.Held.{Held, free-outside}
-use Rattle.unit.proofs.Writes.{stored-at, PlaceGood}
+use Rattle.unit.specs.Leaves.{RegisterLeaves}
+use Rattle.unit.proofs.Walk.{IfTaken, word-yes, NotFunctions, RegisterDeeds, PlaceGood, walk-place}
+use Rattle.unit.proofs.Writes.{stored-at}
+use Rattle.unit.proofs.Leaves.{reg-leaves, requested-leaves, steps, requests-leave}
 use Rattle.unit.proofs.Fine.{Fine, small-word}
 use Rattle.unit.proofs.Parts.{Part, part, showPart, outcomePart, phasePart, part-tick}
 use Rattle.unit.proofs.WholeSteps.{count-small, count-stands}
@@ -164,59 +164,28 @@ shown-over p s w o g =
           };
     }
 
--- all words, functions and set-ups stay
-pub record Stays (s w : State) : Type 0 where
-  pub words : (j k : ℕ) → word w j k ≡ word s j k
-  pub functions : (j : ℕ) → function w j ≡ function s j
-  pub ready : (j : ℕ) → (channel w j) .initialised ≡ (channel s j) .initialised
+over-refl : (p : ℕ) (s : State) → Over p s s
+over-refl p s = record { fourth = refl; fifth = refl; members = λ j a b. record { control = refl; source = refl; function = refl; initialised = refl } }
 
-pub stays-over : (p : ℕ) (s w : State) → Stays s w → Over p s w
-stays-over p s w y =
-    record { fourth = y .words p 4; fifth = y .words p 5; members = λ j a b. record { control = y .words j 0; source = y .words j 1; function = y .functions j; initialised = y .ready j } }
+-- a write to a register that holds no functions
+over-leaves : (asked : ℕ → Bool) (p i : ℕ) (s w : State) → NotFunctions i → RegisterLeaves asked i s w → Over p s w
+unfolding word function cfsrOf
+over-leaves asked p i s w n y =
+    let same : (j k : ℕ) → word w j k ≡ word s j k = λ j k. ap (λ l. getD l (8 * j + k) 0) (y .words) in
+    record {
+      fourth = same p 4;
+      fifth = same p 5;
+      members = λ j a b.
+          record {
+            control = same j 0;
+            source = same j 1;
+            function = ap (λ x. field 4 x (4 * (j % 4))) (y .registers (cfsrOf j) (λ e. ⊎-elim (λ q. omega arith) (λ q. omega arith) n));
+            initialised = y .setup j;
+          };
+    }
 
-stays-refl : (s : State) → Stays s s
-stays-refl s = record { words = λ j k. refl; functions = λ j. refl; ready = λ j. refl }
-
-stays-trans : (s t w : State) → Stays s t → Stays t w → Stays s w
-stays-trans s t w x y = record { words = λ j k. y .words j k ∙ x .words j k; functions = λ j. y .functions j ∙ x .functions j; ready = λ j. y .ready j ∙ x .ready j }
-
-stays-phase : (s : State) (i : ℕ) (w : Way) (q : Phase) → Stays s (withPhase s i w q)
-unfolding withPhase withChannel word function reg
-stays-phase s i w q = record { words = λ j k. refl; functions = λ j. refl; ready = λ j. channel-keeps (λ (y : Channel). y .initialised) s i _ j refl }
-
-stays-request : (s : State) (i r : ℕ) → Stays s (withRequest s i r)
-unfolding withRequest withReg word channel
-stays-request s i r = record { words = λ j k. refl; functions = λ j. function-reg s (hsrrOf i) _ j (omega (arith, hsrr-range i)); ready = λ j. refl }
-
-pub stays-requested : (s : State) (i r : ℕ) → Stays s (requested s i r)
-unfolding requested
-stays-requested s i r =
-    pick-cases (Stays s) (eqb r 2) (λ a. stays-request s i 2)
-    (λ a. pick-cases (Stays s) (eqb r 3)
-    (λ b. stays-trans s _ _ (pick-cases (Stays s) (stepping s i) (λ t. stays-refl s) (λ t. stays-phase s i _ _)) (stays-request _ i 3)) (λ b. stays-refl s))
-
-stays-requests : (n a v : ℕ) (s : State) → Stays s (each n a (requestedOne v) s)
-unfolding each requestedOne
-stays-requests zero a v s = stays-refl s
-stays-requests (suc n) a v s = stays-trans s _ _ (stays-requests n a v s) (stays-requested _ (a + n) _)
-
-unfoldable pub OverVerdict : ℕ → State → Verdict → Type 0
-OverVerdict p s (Does d) = Over p s (done d s)
-OverVerdict p s (Stops n) = Unit {0}
-
-over-question : (p : ℕ) (s : State) (q : Bool) (n : ℕ) (k : Verdict) → (q ≡ true → OverVerdict p s k) → OverVerdict p s (ask q (Stops n) k)
-unfolding OverVerdict
-over-question p s q n k f = ask-cases (OverVerdict p s) q (Stops n) k tt f
-
-over-asked : (p : ℕ) (s : State) (k : Asked) (a v : ℕ) → OverVerdict p s (verdictOf k (Request a v))
-unfolding OverVerdict verdictOf done
-over-asked p s (Yes w) a v = stays-over p s _ (stays-requests 8 a v s)
-over-asked p s (No n) a v = tt
-
--- a register that holds no functions
-stays-reg : (s : State) (i v : ℕ) → (i ≡ 0) ⊎ (4 < i) → Stays s (withReg s i v)
-unfolding withReg word channel
-stays-reg s i v o = record { words = λ j k. refl; functions = λ j. ⊎-elim (λ e. function-first s i v j e) (λ l. function-reg s i v j l) o; ready = λ j. refl }
+pub over-requested : (p : ℕ) (s : State) (j r : ℕ) → Over p s (requested s j r)
+over-requested p s j r = over-leaves (λ d. true) p (hsrrOf j) s _ (inr (omega (arith, hsrr-range j))) (requested-leaves (λ d. true) (hsrrOf j) j refl r s (λ e. refl))
 
 -- CFSR: a channel whose function changes is free, so it is none of the group
 function-kept : (p i v j : ℕ) (s : State) → i ≤ 4 → 1 ≤ i → Held p s → all 4 (4 * (4 - i)) (keepsOrFree s v) ≡ true → p ≤ j → j ≤ last s p → function (withReg s i v) j ≡ function s j
@@ -240,21 +209,14 @@ unfolding withReg word channel
 over-functions p i v s l m h q =
     record { fourth = refl; fifth = refl; members = λ j a b. record { control = refl; source = refl; function = function-kept p i v j s l m h q a b; initialised = refl } }
 
-over-register : (p i v : ℕ) (s : State) → i ≤ 11 → Held p s → OverVerdict p s (askRegister s i v)
-unfolding askRegister OverVerdict done
-over-register p i v s l h =
-    pick-cases (OverVerdict p s) (eqb i cisr) (λ a. stays-over p s _ (stays-reg s cisr _ (inr (omega arith))))
-    (λ a. pick-cases (OverVerdict p s) (leb 1 i && leb i 4)
-    (λ b. over-question p s _ 2 (Does (Register i v))
-    (over-functions p i v s (leb-true i 4 (and-right (leb 1 i) (leb i 4) b)) (leb-true 1 i (and-left (leb 1 i) (leb i 4) b)) h))
-    (λ b. pick-cases (OverVerdict p s) (leb 7 i && leb i 8) (λ d. over-asked p s (askChannels 8 (8 * (8 - i)) v s) (8 * (8 - i)) v) (λ d. stays-over p s _ (stays-reg s i v (outside b)))))
-  where
-    outside : (leb 1 i && leb i 4) ≡ false → (i ≡ 0) ⊎ (4 < i)
-    outside b = by (leb 1 i) refl
-      where
-        by : (t : Bool) → leb 1 i ≡ t → (i ≡ 0) ⊎ (4 < i)
-        by false t = inl (omega (arith, leb-false 1 i t))
-        by true t = inr (omega (arith, leb-false i 4 (sym (ap (λ x. x && leb i 4) t) ∙ b)))
+over-register : (p i v : ℕ) (s : State) → Held p s → RegisterDeeds (Over p s) s i v
+over-register p i v s h =
+    record {
+      keep = λ e. over-leaves (steps cisr v) p cisr s _ (inr (omega arith)) (reg-leaves (steps cisr v) cisr _ s);
+      plain = λ n f r. over-leaves (steps i v) p i s _ f (reg-leaves (steps i v) i v s);
+      functions = λ a b q. over-functions p i v s b a h q;
+      requests = λ a b. word-yes (Over p s) 8 (8 * (8 - i)) v s (over-leaves (steps i v) p i s _ (inr (omega arith)) (requests-leave 8 i v s (omega arith) a b));
+    }
 
 -- a word of a channel outside the group, or a target
 over-word : (p j i v : ℕ) (s : State) → i < 8 → Held p s → (p ≤ j → j ≤ last s p → ⊥) ⊎ (i ≡ 3) → Over p s (withWord s j i v)
@@ -296,20 +258,11 @@ over-stored p j i v s l h o =
     rw (stored-at s j i v l)
     (pick-cases (Over p s) (eqb i 0) (λ t. ⊎-elim (λ out. over-initialised p j false s _ out w) (λ e. absurd (let z : i ≡ 0 = eqb-true i 0 t in omega arith)) o) (λ t. w))
 
-over-parameter : (p j i v : ℕ) (s : State) → i < 8 → Held p s → OverVerdict p s (askWord s j i v)
-unfolding askWord OverVerdict done
-over-parameter p j i v s l h =
-    pick-cases (OverVerdict p s) (exists j i)
-    (λ x. pick-cases (OverVerdict p s) (eqb i 3 && stepping s j)
-    (λ a. over-question p s _ 9 (Does (Parameter (8 * j + i) v)) (λ q. over-stored p j i v s l h (inr (eqb-true i 3 (and-left (eqb i 3) (stepping s j) a)))))
-    (λ a. over-question p s (isFree s j) 2 (Does (Parameter (8 * j + i) v)) (λ f. over-stored p j i v s l h (inl (free-outside p j s h f)))))
-    (λ x. stays-over p s s (stays-refl s))
-
-pub over-place : (p : ℕ) (a : Place) (v : ℕ) (s : State) → PlaceGood a → Held p s → OverVerdict p s (askPlace s a v)
-unfolding askPlace OverVerdict PlaceGood
-over-place p (AtRegister i) v s g h = over-register p i v s g h
-over-place p (AtWord j i) v s g h = over-parameter p j i v s (g .1) h
-over-place p Nowhere v s g h = tt
+pub over-place : (p : ℕ) (a : Place) (v : ℕ) (s : State) → PlaceGood a → Held p s → IfTaken (Over p s) s (askPlace s a v)
+over-place p a v s g h =
+    walk-place (Over p s) s a v (λ i e l. over-register p i v s h)
+    (λ j i e m l. record { missing = λ x. over-refl p s; target = λ q k n. over-stored p j i v s l h (inr q); free = λ f. over-stored p j i v s l h (inl (free-outside p j s h f)) })
+    g
 
 -- ---- every group under way
 

@@ -5,16 +5,13 @@ use native.Mathlib.Nat.{eq-or-lt-of-le}
 use mathlib.Core.Bool.{Bool, true, false, _&&_}
 use mathlib.Core.List.{List, [], _∷_, _++_}
 use mathlib.Core.Path.{_≡_, refl, ap, sym, subst, _∙_}
-use mathlib.Core.Logic.{_≢_, ⊎-elim}
-use lib.Bits.{bitAnd}
+use mathlib.Core.Logic.{⊎-elim}
 use lib.Dec.{eqb, leb}
-use lib.ListN.{take}
+use lib.ListN.{getD, take}
 use borrow.Author.Tests.{eqb-true, eqb-false, le-leb}
 use Rattle.words.specs.Choice.{pick, ask}
 use Rattle.words.specs.Field.{bitOf}
-use Rattle.words.proofs.ChoiceLaws.{not-both, pick-cases, ask-cases, fails, tests}
-use Rattle.motor.specs.declared.Way.{Way}
-use Rattle.motor.specs.declared.Phase.{Phase}
+use Rattle.words.proofs.ChoiceLaws.{not-both, fails, tests}
 use Rattle.motor.specs.Group.{Group, bound, aimed}
 use Rattle.motor.specs.Group as group
 use Rattle.motor.specs.Count.{Target, Other, isTarget, Sight, Moment, Running, NoTarget, Dark, Linked, after, Counted}
@@ -24,22 +21,21 @@ use Rattle.motor.proofs.Counts.{dark}
 use Rattle.motor.proofs.Arrival.{arrives}
 use Rattle.motor.proofs.Term3.{every-count}
 use Rattle.unit.specs.declared.State.{State}
-use Rattle.unit.specs.declared.Deed.the-variants.{Parameter, Register, Request}
-use Rattle.unit.specs.declared.Verdict.{Verdict}
-use Rattle.unit.specs.declared.Verdict.the-variants.{Taken as Does, Refused as Stops}
-use Rattle.unit.specs.TheUnit.{target, resetState, withReg, withWords, withChannel, each, cisr, reg, status, withInitialised, withPhase, withWord, exists, cntl0, cntl1, last, stepping, reaches, isBound}
-use Rattle.unit.specs.Gate.{gate, Place, AtRegister, AtWord, Nowhere, place, isFree, targetGood, requested, requestedOne, Asked, Yes, No, askChannels, verdictOf, askRegister, askWord, askPlace, stored, done}
+use Rattle.unit.specs.TheUnit.{target, resetState, cisr, reg, status, exists, cntl0, cntl1, last, stepping, reaches, isBound}
+use Rattle.unit.specs.Gate.{gate, Place, AtWord, place, isFree, askWord, askPlace, stored}
 use Rattle.unit.specs.Calls.{answeredBy, writeOf}
 use Rattle.unit.specs.Moments.{Act, Writes, acts, does, through, see, isTaken, isTargetOf, eventOf, moments}
 use Rattle.unit.specs.Term3.{firstPeriod, Freed, Run, atRequest, atStart, atCount, atEnd, momentsGone, momentsNow, Cut, Term3}
 use Rattle.unit.proofs.Reset.{Sized}
-use Rattle.unit.proofs.Access.{reg-same, status-request}
 use Rattle.unit.proofs.Look.{look}
 use Rattle.unit.proofs.Own.{viewIn, view, groupIn}
 use Rattle.unit.proofs.Alone.{Alone}
-use Rattle.unit.proofs.Tests.{and-left, and-right, any-no, or-right}
+use Rattle.unit.proofs.Tests.{and-left, and-right, or-right}
 use Rattle.unit.proofs.Held.{Held, is-free, rests-still, still-reach}
-use Rattle.unit.proofs.Writes.{masked, status-reg, AfterTarget, write-target}
+use Rattle.unit.proofs.Walk.{IfTaken, taken-answer, taken-yes, word-yes, RegisterDeeds, PlaceGood, place-good, walk-place}
+use Rattle.unit.proofs.Leaves.{word-leaves, requests-leave}
+use Rattle.unit.proofs.Lit.{is-unbound}
+use Rattle.unit.proofs.Writes.{dark-keep, status-reg, Aimed, write-target}
 use Rattle.unit.proofs.Fine.{Fine, fine-reset}
 use Rattle.unit.proofs.Chain.{Ahead, ahead, bound-stepping, seen, gate-place, target-place, running-held, Chained, chain}
 use Rattle.unit.proofs.Begin.{Begun, begin, set-going}
@@ -49,73 +45,36 @@ use Rattle.unit.specs.OneStep.{WholeSteps}
 
 -- ---- no write sets a status bit
 
-unfoldable DarkVerdict : ℕ → State → Verdict → Type 0
-DarkVerdict c s (Does d) = status (done d s) c ≡ true → status s c ≡ true
-DarkVerdict c s (Stops n) = Unit {0}
+unfoldable Darkens : ℕ → State → State → Type 0
+Darkens c s w = status w c ≡ true → status s c ≡ true
 
-dark-question : (c : ℕ) (s : State) (q : Bool) (n : ℕ) (k : Verdict) → DarkVerdict c s k → DarkVerdict c s (ask q (Stops n) k)
-unfolding DarkVerdict
-dark-question c s q n k f = ask-cases (DarkVerdict c s) q (Stops n) k tt (λ e. f)
+dark-register : (c i v : ℕ) (s : State) → Sized s → RegisterDeeds (Darkens c s) s i v
+unfolding Darkens status
+dark-register c i v s z =
+    record {
+      keep = λ e. dark-keep c v s z;
+      plain = λ n f r. status-reg s i v c n;
+      functions = λ a b q. status-reg s i v c (λ e. omega arith);
+      requests = λ a b. word-yes (Darkens c s) 8 (8 * (8 - i)) v s (λ t. sym (ap (λ x. bitOf x c) ((requests-leave 8 i v s (omega arith) a b) .registers cisr (λ e. omega arith))) ∙ t);
+    }
 
-status-phase : (c : ℕ) (s : State) (j : ℕ) (w : Way) (p : Phase) → status (withPhase s j w p) c ≡ status s c
-unfolding status withPhase withChannel reg
-status-phase c s j w p = refl
+dark-word : (c j i v : ℕ) (s : State) → i < 8 → Darkens c s (stored s (8 * j + i) v)
+unfolding Darkens status reg
+dark-word c j i v s l t = sym (ap (λ r. bitOf (getD r cisr 0) c) ((word-leaves j i v s l) .registers)) ∙ t
 
-status-requested : (c : ℕ) (s : State) (j r : ℕ) → status (requested s j r) c ≡ status s c
-unfolding requested
-status-requested c s j r =
-    pick-cases (λ w. status w c ≡ status s c) (eqb r 2) (λ a. status-request s j 2 c)
-    (λ a. pick-cases (λ w. status w c ≡ status s c) (eqb r 3)
-    (λ b. status-request _ j 3 c ∙ pick-cases (λ w. status w c ≡ status s c) (stepping s j) (λ t. refl) (λ t. status-phase c s j _ _)) (λ b. refl))
-
-status-requests : (c n a v : ℕ) (s : State) → status (each n a (requestedOne v) s) c ≡ status s c
-unfolding each requestedOne
-status-requests c zero a v s = refl
-status-requests c (suc n) a v s = status-requested c _ (a + n) _ ∙ status-requests c n a v s
-
-dark-asked : (c : ℕ) (s : State) (k : Asked) (a v : ℕ) → DarkVerdict c s (verdictOf k (Request a v))
-unfolding DarkVerdict verdictOf done
-dark-asked c s (Yes w) a v = λ t. sym (status-requests c 8 a v s) ∙ t
-dark-asked c s (No n) a v = tt
-
-dark-stored : (c : ℕ) (s : State) (at v : ℕ) → status (stored s at v) c ≡ true → status s c ≡ true
-unfolding stored withInitialised withChannel withWord withWords status reg
-dark-stored c s at v = pick-cases (λ (w : State). status w c ≡ true → status s c ≡ true) (eqb (at % 8) 0) (λ a t. t) (λ a t. t)
-
-dark-keep : (c v : ℕ) (s : State) → Sized s → status (withReg s cisr (bitAnd (reg s cisr) v)) c ≡ true → status s c ≡ true
-unfolding status
-dark-keep c v s z t = masked (reg s cisr) v c (sym (ap (λ x. bitOf x c) (reg-same s cisr (bitAnd (reg s cisr) v) (omega arith) z)) ∙ t)
-
-dark-place : (c : ℕ) (s : State) (p : Place) (v : ℕ) → Sized s → DarkVerdict c s (askPlace s p v)
-unfolding askPlace askRegister askWord DarkVerdict done
-dark-place c s (AtRegister i) v z =
-    pick-cases (DarkVerdict c s) (eqb i cisr) (λ a. dark-keep c v s z)
-    (λ a. let n : i ≢ cisr = eqb-false i cisr a in pick-cases (DarkVerdict c s) (leb 1 i && leb i 4)
-    (λ b. dark-question c s _ 2 (Does (Register i v)) (status-reg s i v c n))
-    (λ b. pick-cases (DarkVerdict c s) (leb 7 i && leb i 8) (λ d. dark-asked c s (askChannels 8 _ v s) _ v) (λ d. status-reg s i v c n)))
-dark-place c s (AtWord j i) v z =
-    pick-cases (DarkVerdict c s) (exists j i)
-    (λ a. pick-cases (DarkVerdict c s) (eqb i 3 && stepping s j)
-    (λ b. dark-question c s (targetGood s j v) 9 (Does (Parameter (8 * j + i) v)) (dark-stored c s (8 * j + i) v))
-    (λ b. dark-question c s (isFree s j) 2 (Does (Parameter (8 * j + i) v)) (dark-stored c s (8 * j + i) v)))
-    (λ a t. t)
-dark-place c s Nowhere v z = tt
-
-dark-answer : (c : ℕ) (s : State) (k : Verdict) → DarkVerdict c s k → status ((answeredBy k s) .state) c ≡ true → status s c ≡ true
-unfolding answeredBy DarkVerdict
-dark-answer c s (Does d) f t = f t
-dark-answer c s (Stops n) f t = t
+dark-place : (c : ℕ) (s : State) (p : Place) (v : ℕ) → Sized s → PlaceGood p → IfTaken (Darkens c s) s (askPlace s p v)
+unfolding Darkens
+dark-place c s p v z g =
+    walk-place (Darkens c s) s p v (λ i e l. dark-register c i v s z) (λ j i e m l. record { missing = λ x t. t; target = λ q k n. dark-word c j i v s l; free = λ q. dark-word c j i v s l }) g
 
 write-dark : (c a v : ℕ) (s : State) → Sized s → status ((writeOf s a v) .state) c ≡ true → status s c ≡ true
-unfolding writeOf
-write-dark c a v s z =
-    subst (λ k. status ((answeredBy k s) .state) c ≡ true → status s c ≡ true) (sym (gate-place s a v)) (dark-answer c s (askPlace s (place a) v) (dark-place c s (place a) v z))
+unfolding writeOf Darkens
+write-dark c a v s z = rw (gate-place s a v) (taken-answer (Darkens c s) s (askPlace s (place a) v) (λ t. t) (dark-place c s (place a) v z (place-good a)))
 
 -- ---- the arrival frees the group
 
 freed-member : (c : ℕ) (s : State) → Ahead c s → stepping s c ≡ false → (j : ℕ) → c ≤ j → j ≤ last s c → isBound s j ≡ false
-unfolding isBound
-freed-member c s a g j x y = rw (own) (any-no (reaches s j) none 16 0)
+freed-member c s a g j x y = is-unbound j s own none
   where
     own : stepping s j ≡ false
     own = ⊎-elim (λ e. subst (λ k. stepping s k ≡ false) e g) (λ l. rests-still s j (a .alone .rest j l y)) (eq-or-lt-of-le x)
@@ -241,10 +200,9 @@ running-last c (y ∷ xs) x s r =
     let k : Running (moments c (does y s) xs) × ((see c (through (does y s) xs)) .bound ≡ true) = running-last c xs x (does y s) (r .1) in
     ((r .0, k .0), k .1)
 
-aimed-target : (c v : ℕ) (s : State) (k : Verdict) → AfterTarget c s v k → isTaken ((answeredBy k s) .answer) ≡ true → target ((answeredBy k s) .state) c ≡ v
-unfolding AfterTarget answeredBy isTaken target view viewIn groupIn look aimed
-aimed-target c v s (Does d) a t = ap (λ (g : Group). g .motor .target) (a .group)
-aimed-target c v s (Stops n) a t = absurd (not-both t refl)
+aimed-target : (c v : ℕ) (s w : State) → Aimed c w s v → target w c ≡ v
+unfolding target view viewIn groupIn look aimed
+aimed-target c v s w a = ap (λ (g : Group). g .motor .target) (a .group)
 
 taken-target : (c a v : ℕ) (s : State) → Held c s → eventOf c (Writes a v) s ≡ Target → target (does (Writes a v) s) c ≡ v
 unfolding eventOf does writeOf isTarget askPlace
@@ -254,7 +212,7 @@ taken-target c a v s h e = by (isTargetOf c (place a) && isTaken ((answeredBy (g
     by true t q =
         let p : place a ≡ AtWord c 3 = target-place c (place a) (and-left (isTargetOf c (place a)) _ t) in
         let g : gate s a v ≡ askPlace s (AtWord c 3) v = gate-place s a v ∙ ap (λ y. askPlace s y v) p in
-        subst (λ k. isTaken ((answeredBy k s) .answer) ≡ true → target ((answeredBy k s) .state) c ≡ v) (sym g) (aimed-target c v s (askPlace s (AtWord c 3) v) (write-target c v s h))
+        subst (λ k. isTaken ((answeredBy k s) .answer) ≡ true → target ((answeredBy k s) .state) c ≡ v) (sym g) (λ y. aimed-target c v s _ (taken-yes (λ w. Aimed c w s v) s (askPlace s (AtWord c 3) v) (write-target c v s h) y))
         (and-right (isTargetOf c (place a)) _ t)
     by false t q = absurd (not-both refl (ap isTarget (sym q)))
 

@@ -1,108 +1,33 @@
 -- Every write to a unit in which the primary c is held: it takes a target of c, or leaves all of its group but priority and status.
 use Prim.Native.Nat.{ℕ, zero, suc, _+_, _-_, _*_, _/_, _%_, _≤_, _<_}
 use native.Mathlib.Omega.{arith}
-use mathlib.Core.Bool.{Bool, true, false, _&&_, _||_}
+use mathlib.Core.Bool.{Bool, true, false, _&&_}
 use mathlib.Core.Path.{_≡_, refl, ap, sym, subst, _∙_}
 use mathlib.Core.Logic.{_≢_, _⊎_, inl, inr, ⊎-elim}
 use lib.Bits.{bitAnd}
-use lib.Dec.{ltb, leb, eqb}
-use borrow.Author.Tests.{leb-true, leb-false, eqb-true, eqb-false, eq-eqb}
-use Rattle.words.specs.Choice.{pick, ask}
+use lib.Dec.{leb, eqb}
+use borrow.Author.Tests.{leb-true, eqb-true, eqb-false, eq-eqb}
+use Rattle.words.specs.Choice.{pick}
 use Rattle.words.specs.Field.{field, bitOf}
-use Rattle.words.proofs.ChoiceLaws.{pick-cases, ask-cases, not-both}
+use Rattle.words.proofs.ChoiceLaws.{pick-cases, not-both}
 use Rattle.words.proofs.FieldLaws.{bit-and, field-lt}
 use Rattle.motor.specs.Stepping.{lastPosition}
 use Rattle.motor.specs.Group.{bound, aimed, Sound}
 use Rattle.motor.proofs.Counts.{aimed-sound}
 use Rattle.unit.specs.declared.Channel.{Channel}
 use Rattle.unit.specs.declared.State.{State}
-use Rattle.unit.specs.declared.Deed.the-variants.{Parameter, Register, Request}
-use Rattle.unit.specs.declared.Verdict.{Verdict}
-use Rattle.unit.specs.declared.Verdict.the-variants.{Taken, Refused}
-use Rattle.unit.specs.TheUnit.{withReg, withWords, each, cisr, hsrrOf, reg, request, enabled, status, channel, withInitialised, word, withWord, exists, target, top, last, stepping, reaches, withChannel}
-use Rattle.unit.specs.Gate.{Place, AtRegister, AtWord, Nowhere, place, isFree, targetGood, requested, Asked, Yes, No, askInitialise, askStep, askChannel, andThen, askChannels, verdictOf, askRegister, askWord, askPlace, requestedOne, stored, done}
+use Rattle.unit.specs.TheUnit.{withReg, withWords, cisr, hsrrOf, reg, request, enabled, status, channel, withInitialised, word, withWord, exists, target, top, last, stepping, reaches, withChannel}
+use Rattle.unit.specs.Gate.{Place, AtWord, isFree, targetGood, askWord, askPlace, stored}
 use Rattle.unit.proofs.Reset.{Sized}
 use Rattle.unit.proofs.Access.{sized-reg, sized-word, word-same, word-other, reg-same, reg-other, hsrr-range, sized-channel, channel-keeps}
 use Rattle.unit.proofs.Look.{look, look-word-far, look-initialised}
 use Rattle.unit.proofs.Own.{viewIn, view, groupIn}
 use Rattle.unit.proofs.Alone.{Fades, fades-refl, fades-word, Alone, alone-fades}
-use Rattle.unit.proofs.Tests.{and-left, and-right, or-right}
-use Rattle.unit.proofs.Held.{Held, Altered, altered-by, altered-same, altered-refl, free-still, free-outside, wide-last, rests-next, AfterAsked, after-channels}
-
--- ---- what the questions of an HSRR word say yes to is what the requests do
-
-unfoldable pub Asks : ℕ → ℕ → State → Asked → Type 0
-Asks r j s (Yes w) = requested s j r ≡ w
-Asks r j s (No n) = Unit {0}
-
-asks-question : (r j : ℕ) (s : State) (q : Bool) (n : ℕ) (k : Asked) → Asks r j s k → Asks r j s (ask q (No n) k)
-unfolding Asks
-asks-question r j s q n k f = ask-cases (Asks r j s) q (No n) k tt (λ e. f)
-
-pub channel-asks : (r j : ℕ) (s : State) → Asks r j s (askChannel r j s)
-unfolding askChannel askInitialise askStep Asks requested
-channel-asks r j s =
-    pick-cases (Asks r j s) (eqb r 2)
-    (λ a. asks-question r j s _ 2 _ (asks-question r j s _ 3 _ (asks-question r j s _ 4 _ (same 2 (eqb-true r 2 a)))))
-    (λ a. pick-cases (Asks r j s) (eqb r 3)
-    (λ b. pick-cases (Asks r j s) (stepping s j && eqb (request s j) 0) (λ t. asks-question r j s _ 3 _ (same 3 (eqb-true r 3 b)))
-    (λ t. asks-question r j s _ 2 _ (asks-question r j s _ 3 _ (asks-question r j s _ 5 _ (asks-question r j s _ 6 _ (asks-question r j s _ 7 _ (asks-question r j s _ 8 _ (asks-question r j s _ 9 _ (same 3 (eqb-true r 3 b))))))))))
-    (λ b. neither a b))
-  where
-    same : (k : ℕ) → r ≡ k → requested s j r ≡ requested s j k
-    same k e = ap (requested s j) e
-
-    neither : eqb r 2 ≡ false → eqb r 3 ≡ false → requested s j r ≡ s
-    neither a b = rw (a, b)
-
-unfoldable pub Requests : ℕ → ℕ → ℕ → State → Asked → Type 0
-Requests n a v s (Yes w) = each n a (requestedOne v) s ≡ w
-Requests n a v s (No k) = Unit {0}
-
-channels-ask-one : (n a v : ℕ) (s w : State) (k : Asked) → each n a (requestedOne v) s ≡ w → Asks (field 2 v (2 * ((a + n) % 8))) (a + n) w k → Requests (suc n) a v s k
-unfolding Requests Asks each requestedOne
-channels-ask-one n a v s w (Yes x) e f = ap (λ t. requested t (a + n) (field 2 v (2 * ((a + n) % 8)))) e ∙ f
-channels-ask-one n a v s w (No m) e f = tt
-
-pub channels-ask : (n a v : ℕ) (s : State) → Requests n a v s (askChannels n a v s)
-unfolding askChannels Requests each andThen
-channels-ask zero a v s = refl
-channels-ask (suc n) a v s = by (askChannels n a v s) (channels-ask n a v s)
-  where
-    by : (k : Asked) → Requests n a v s k → Requests (suc n) a v s (andThen k (askChannel (field 2 v (2 * ((a + n) % 8))) (a + n)))
-    by (No m) e = tt
-    by (Yes w) e = channels-ask-one n a v s w (askChannel (field 2 v (2 * ((a + n) % 8))) (a + n) w) e (channel-asks (field 2 v (2 * ((a + n) % 8))) (a + n) w)
-
--- ---- what a verdict leaves of c
-
-unfoldable pub AfterVerdict : ℕ → State → Verdict → Type 0
-AfterVerdict c s (Taken d) = Altered c (done d s) s
-AfterVerdict c s (Refused n) = Unit {0}
-
-after-question : (c : ℕ) (s : State) (q : Bool) (n : ℕ) (k : Verdict) → (q ≡ true → AfterVerdict c s k) → AfterVerdict c s (ask q (Refused n) k)
-unfolding AfterVerdict
-after-question c s q n k f = ask-cases (AfterVerdict c s) q (Refused n) k tt f
-
-after-requests : (c a v : ℕ) (s : State) → a + 8 ≤ 16 → Held c s → AfterVerdict c s (verdictOf (askChannels 8 a v s) (Request a v))
-unfolding AfterVerdict AfterAsked Requests verdictOf done
-after-requests c a v s l h = by (askChannels 8 a v s) (channels-ask 8 a v s) (after-channels c 8 a v s l h)
-  where
-    by : (k : Asked) → Requests 8 a v s k → AfterAsked c s k → AfterVerdict c s (verdictOf k (Request a v))
-    by (No m) e f = tt
-    by (Yes w) e f = subst (λ x. Altered c x s) (sym e) f
+use Rattle.unit.proofs.Walk.{IfTaken, NotRequests, RegisterDeeds, WordDeeds, walk-word, walk-place, PlaceGood}
+use Rattle.unit.proofs.Tests.{or-right}
+use Rattle.unit.proofs.Held.{Held, Altered, altered-by, altered-same, altered-refl, free-still, free-outside, wide-last, rests-next, after-channels}
 
 -- ---- registers
-
--- any register but HSRR
-abbrev pub NotRequests : ℕ → Type 0
-NotRequests i = (i < 7) ⊎ (8 < i)
-
-pub not-requests : (i : ℕ) → (leb 7 i && leb i 8) ≡ false → NotRequests i
-not-requests i d = by (leb 7 i) refl
-  where
-    by : (t : Bool) → leb 7 i ≡ t → NotRequests i
-    by false t = inl (omega (arith, leb-false 7 i t))
-    by true t = inr (omega (arith, leb-false i 8 (sym (ap (λ x. x && leb i 8) t) ∙ d)))
 
 pub request-reg : (s : State) (i v d : ℕ) → NotRequests i → request (withReg s i v) d ≡ request s d
 unfolding request
@@ -130,27 +55,23 @@ one-and zero y h e = absurd (let z : _≡_ {A = ℕ} 0 1 = e in omega arith)
 one-and (suc zero) y h e = refl
 one-and (suc (suc x)) y h e = absurd (omega arith)
 
-pub masked : (x v c : ℕ) → bitOf (bitAnd x v) c ≡ true → bitOf x c ≡ true
+masked : (x v c : ℕ) → bitOf (bitAnd x v) c ≡ true → bitOf x c ≡ true
 unfolding bitOf
 masked x v c t =
     eq-eqb (field 1 x c) 1 (one-and (field 1 x c) (field 1 v c) (field-lt 1 x c) (sym (bit-and x v c) ∙ eqb-true (field 1 (bitAnd x v) c) 1 t))
 
-keep-altered : (c v : ℕ) (s : State) → Held c s → Altered c (withReg s cisr (bitAnd (reg s cisr) v)) s
+pub dark-keep : (c v : ℕ) (s : State) → Sized s → status (withReg s cisr (bitAnd (reg s cisr) v)) c ≡ true → status s c ≡ true
 unfolding status
-keep-altered c v s h =
-    register-altered c cisr _ s h (inr (omega arith))
-    (λ t. masked (reg s cisr) v c (sym (ap (λ x. bitOf x c) (reg-same s cisr (bitAnd (reg s cisr) v) (omega arith) (h .sized))) ∙ t))
+dark-keep c v s z t = masked (reg s cisr) v c (sym (ap (λ x. bitOf x c) (reg-same s cisr (bitAnd (reg s cisr) v) (omega arith) z)) ∙ t)
 
-write-register : (c i v : ℕ) (s : State) → i ≤ 11 → Held c s → AfterVerdict c s (askRegister s i v)
-unfolding askRegister AfterVerdict done
-write-register c i v s l h =
-    pick-cases (AfterVerdict c s) (eqb i cisr) (λ a. keep-altered c v s h)
-    (λ a. let n : i ≢ cisr = eqb-false i cisr a in pick-cases (AfterVerdict c s) (leb 1 i && leb i 4)
-    (λ b. let m : i ≤ 4 = leb-true i 4 (and-right (leb 1 i) (leb i 4) b) in
-    after-question c s _ 2 (Taken (Register i v)) (λ q. register-altered c i v s h (inl (omega arith)) (status-reg s i v c n)))
-    (λ b. pick-cases (AfterVerdict c s) (leb 7 i && leb i 8)
-    (λ d. let m : 7 ≤ i = leb-true 7 i (and-left (leb 7 i) (leb i 8) d) in after-requests c (8 * (8 - i)) v s (omega arith) h)
-    (λ d. register-altered c i v s h (not-requests i d) (status-reg s i v c n))))
+register-deeds : (c i v : ℕ) (s : State) → Held c s → RegisterDeeds (λ w. Altered c w s) s i v
+register-deeds c i v s h =
+    record {
+      keep = λ e. register-altered c cisr _ s h (inr (omega arith)) (dark-keep c v s (h .sized));
+      plain = λ n f r. register-altered c i v s h r (status-reg s i v c n);
+      functions = λ a b q. register-altered c i v s h (inl (omega arith)) (status-reg s i v c (λ e. omega arith));
+      requests = λ a b. after-channels c 8 (8 * (8 - i)) v s (omega arith) h;
+    }
 
 -- ---- parameter words
 
@@ -215,17 +136,13 @@ word-altered c j i v s l h n m r =
     (λ t. altered-same c w s h z a e))
 
 -- any word but the target of c
-write-word : (c j i v : ℕ) (s : State) → j < 16 → i < 8 → (j ≡ c → i ≢ 3) → Held c s → AfterVerdict c s (askWord s j i v)
-unfolding askWord AfterVerdict done
-write-word c j i v s hj l out h =
-    pick-cases (AfterVerdict c s) (exists j i)
-    (λ x. pick-cases (AfterVerdict c s) (eqb i 3 && stepping s j)
-    (λ a. let e : i ≡ 3 = eqb-true i 3 (and-left (eqb i 3) (stepping s j) a) in
-    let g : stepping s j ≡ true = and-right (eqb i 3) (stepping s j) a in
-    after-question c s _ 9 (Taken (Parameter (8 * j + i) v)) (λ q. word-altered c j i v s l h (λ m. out (sym m) e) (not-next g) (inl (λ m. omega arith))))
-    (λ a. after-question c s (isFree s j) 2 (Taken (Parameter (8 * j + i) v))
-    (λ f. word-altered c j i v s l h (own f) (next f) (inr (free-still j s f)))))
-    (λ x. altered-refl c s h)
+word-deeds : (c j i v : ℕ) (s : State) → i < 8 → (j ≡ c → i ≢ 3) → Held c s → WordDeeds (λ w. Altered c w s) s j i v
+word-deeds c j i v s l out h =
+    record {
+      missing = λ x. altered-refl c s h;
+      target = λ e g q. word-altered c j i v s l h (λ m. out (sym m) e) (not-next g) (inl (λ m. omega arith));
+      free = λ f. word-altered c j i v s l h (own f) (next f) (inr (free-still j s f));
+    }
   where
     not-next : stepping s j ≡ true → suc c ≢ j
     not-next g e = not-both g (subst (λ k. stepping s k ≡ false) e (rests-next c s h))
@@ -280,39 +197,18 @@ aims c t s h fits =
       fits = fits;
     }
 
-unfoldable pub AfterTarget : ℕ → State → ℕ → Verdict → Type 0
-AfterTarget c s t (Taken d) = Aimed c (done d s) s t
-AfterTarget c s t (Refused n) = Unit {0}
-
-pub write-target : (c v : ℕ) (s : State) → Held c s → AfterTarget c s v (askWord s c 3 v)
-unfolding askWord AfterTarget done targetGood exists
+pub write-target : (c v : ℕ) (s : State) → Held c s → IfTaken (λ w. Aimed c w s v) s (askWord s c 3 v)
+unfolding targetGood exists
 write-target c v s h =
-    pick-cases (AfterTarget c s v) (leb 14 c || ltb 3 6)
-    (λ x. pick-cases (AfterTarget c s v) (stepping s c)
-    (λ a. ask-cases (AfterTarget c s v) (leb v (lastPosition - top s c)) (Refused 9) (Taken (Parameter (8 * c + 3) v)) tt
-    (λ q. rw (stored-at s c 3 v (omega arith)) (aims c v s h (omega (arith, leb-true v (lastPosition - top s c) q)))))
-    (λ a. absurd (not-both (h .up) a)))
-    (λ x. absurd (not-both (or-right (leb 14 c) true refl) x))
+    walk-word (λ w. Aimed c w s v) s c 3 v
+    record {
+      missing = λ x. absurd (not-both (or-right (leb 14 c) true refl) x);
+      target = λ e g q. rw (stored-at s c 3 v (omega arith)) (aims c v s h (omega (arith, leb-true v (lastPosition - top s c) q)));
+      free = λ f. absurd (not-both (h .up) (free-still c s f));
+    }
 
 -- ---- any write
 
--- the places that addresses have
-unfoldable pub PlaceGood : Place → Type 0
-PlaceGood (AtRegister i) = i ≤ 11
-PlaceGood (AtWord c i) = (c < 16) × (i < 8)
-PlaceGood Nowhere = Unit {0}
-
-pub place-good : (a : ℕ) → PlaceGood (place a)
-unfolding place PlaceGood
-place-good a =
-    pick-cases PlaceGood (eqb (a % 2) 0 && (leb 0xe0a a && leb a 0xe20))
-    (λ t. let h : a ≤ 0xe20 = leb-true a 0xe20 (and-right (leb 0xe0a a) (leb a 0xe20) (and-right (eqb (a % 2) 0) (leb 0xe0a a && leb a 0xe20) t)) in omega arith)
-    (λ t. pick-cases PlaceGood (eqb (a % 2) 0 && (leb 0xf00 a && leb a 0xffe))
-    (λ u. let h : a ≤ 0xffe = leb-true a 0xffe (and-right (leb 0xf00 a) (leb a 0xffe) (and-right (eqb (a % 2) 0) (leb 0xf00 a && leb a 0xffe) u)) in omega arith)
-    (λ u. tt))
-
-pub write-place : (c : ℕ) (p : Place) (v : ℕ) (s : State) → PlaceGood p → p ≢ AtWord c 3 → Held c s → AfterVerdict c s (askPlace s p v)
-unfolding askPlace AfterVerdict PlaceGood
-write-place c (AtRegister i) v s g n h = write-register c i v s g h
-write-place c (AtWord j i) v s g n h = write-word c j i v s (g .0) (g .1) (λ e q. n (λ k. AtWord (e k) (q k))) h
-write-place c Nowhere v s g n h = tt
+pub write-place : (c : ℕ) (p : Place) (v : ℕ) (s : State) → PlaceGood p → p ≢ AtWord c 3 → Held c s → IfTaken (λ w. Altered c w s) s (askPlace s p v)
+write-place c p v s g n h =
+    walk-place (λ w. Altered c w s) s p v (λ i e l. register-deeds c i v s h) (λ j i e hj l. word-deeds c j i v s l (λ q m. n (e ∙ (λ k. AtWord (q k) (m k)))) h) g
