@@ -66,7 +66,7 @@ choice-cases P d top k l m faster fastest slow back brake =
     (λ b. pick-cases P (ltb 0 d) (λ e. slow (omega (arith, tests)) (omega (arith, tests))) (λ e. back (omega (arith, tests)) (omega (arith, tests))))
     (λ b. brake (omega (arith, tests))))
 
--- with way to go a turn steps, so what would follow does not matter
+-- where steps are left, a turn makes one whatever it would fall back on
 way-to-go : (w : Way) (d top k : ℕ) (x y : Outcome) → 0 < d → steps w (choice d top k) x ≡ steps w (choice d top k) y
 unfolding choice
 way-to-go w d top k x y h =

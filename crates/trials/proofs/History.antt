@@ -1,4 +1,4 @@
--- The premises of term 3 can be met: the history of specs/History, computed.
+-- The history of specs/History, computed: it meets what term 3 asks for.
 use Prim.Native.Nat.{_+_, _*_, _≤_}
 use native.Mathlib.Omega.{arith}
 use mathlib.Core.Bool.{Bool, true, not, _&&_}

@@ -183,7 +183,7 @@ pub fades-tick : (s : State) → Sized s → Fades s (tick s)
 unfolding tick
 fades-tick s z = fades-each s 16 0 served (omega arith) (fades-served s) _ (fades-each s 16 0 matched (omega arith) (fades-matched s) _ (fades-clocked s z))
 
--- ---- no other group reaches the group of c, and its other channels rest without a request
+-- ---- the group of c has its channels to itself, and but for c they rest without a request
 
 pub record Alone (c : ℕ) (s : State) : Type 0 where
   pub spans : c ≤ last s c

@@ -13,10 +13,8 @@ use Rattle.motor.specs.declared.Phase.the-variants.{Requested}
 use Rattle.motor.specs.Group.{bound}
 use Rattle.unit.specs.declared.State.{State}
 use Rattle.unit.specs.declared.Channel.{Channel}
-use Rattle.unit.specs.declared.Verdict.{Verdict}
-use Rattle.unit.specs.declared.Verdict.the-variants.{Taken as Does, Refused as Stops}
 use Rattle.unit.specs.TheUnit.{withPhase, last, withReg, withRequest, withInitialised, withWord, withWords, cisr, function, channel, word, channelControl, pinControl, modCount, nextRate, size, stepping}
-use Rattle.unit.specs.Gate.{mayInitialise, Place, place, isFree, isStepper, isReady, groupReady, showsPattern, patternGood, otherwiseZero, spanGood, requested, askChannel, askChannels, askPlace, gate, stored, done}
+use Rattle.unit.specs.Gate.{mayInitialise, Place, place, isFree, isStepper, isReady, groupReady, showsPattern, patternGood, otherwiseZero, spanGood, requested, askChannel, askChannels, askPlace, gate, stored}
 use Rattle.unit.specs.Calls.{answeredBy, writeOf}
 use Rattle.unit.specs.Moments.{Writes as writes, acts, does}
 use Rattle.unit.specs.Always.{ChannelShown, GroupShown}
@@ -32,7 +30,7 @@ use Rattle.unit.proofs.Held.{Altered, initialise-asked, step-again, ste
 use Rattle.unit.proofs.Walk.{IfYes, IfTaken, yes-map, taken-answer, Allowed, walk-channel, walk-channels, PlaceGood, place-good, walk-place}
 use Rattle.unit.proofs.Begin.{begun-requested, requested-other}
 use Rattle.unit.proofs.Calls.{fine-write}
-use Rattle.unit.proofs.Shown.{Over, Every, shown-over, over-requested, over-place}
+use Rattle.unit.proofs.Shown.{over-refl, Over, Every, shown-over, over-requested, over-place}
 use Rattle.unit.proofs.Fine.{Fine, fine-requested}
 use Rattle.unit.proofs.Chain.{gate-place}
 use Rattle.unit.proofs.Chain as chain
@@ -149,11 +147,6 @@ module _ (p : ℕ) (s : State) (l : p < 16) (g : stepping s p ≡ false) where
       })
       k
 
-over-answer : (p : ℕ) (s : State) (k : Verdict) → IfTaken (Over p s) s k → GroupShown p s → GroupShown p ((answeredBy k s) .state)
-unfolding IfTaken answeredBy
-over-answer p s (Does d) o x = shown-over p s (done d s) o x
-over-answer p s (Stops n) o x = x
-
 every-write : (a v : ℕ) (s : State) → Good s → Every ((writeOf s a v) .state)
 unfolding Every New writeOf does
 every-write a v s x p l g = by (stepping s p) refl
@@ -162,7 +155,7 @@ every-write a v s x p l g = by (stepping s p) refl
     by true t =
         let h : Held p s × GroupShown p s = x .1 p l t in (
           (chain.acts p (writes a v) s (h .0)) .ahead .held g,
-          over-answer p s (gate s a v) (subst (IfTaken (Over p s) s) (sym (gate-place s a v)) (over-place p (place a) v s (place-good a) (h .0))) (h .1),
+          shown-over p s _ (taken-answer (Over p s) s (gate s a v) (over-refl p s) (subst (IfTaken (Over p s) s) (sym (gate-place s a v)) (over-place p (place a) v s (place-good a) (h .0)))) (h .1),
         )
     by false t = taken-answer (New p) s (gate s a v) (λ q. absurd (not-both q t)) (subst (IfTaken (New p) s) (sym (gate-place s a v)) (new-place p s l t (place a) v (place-good a) x)) g
 

@@ -164,7 +164,7 @@ shown-over p s w o g =
           };
     }
 
-over-refl : (p : ℕ) (s : State) → Over p s s
+pub over-refl : (p : ℕ) (s : State) → Over p s s
 over-refl p s = record { fourth = refl; fifth = refl; members = λ j a b. record { control = refl; source = refl; function = refl; initialised = refl } }
 
 -- a write to a register that holds no functions

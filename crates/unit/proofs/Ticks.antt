@@ -1,4 +1,4 @@
--- A tick of the unit is a tick of the group of each bound primary.
+-- What a tick of the unit does to a bound primary is what crate motor says of its group.
 use Prim.Native.Nat.{ℕ, zero, suc, _+_, _≤_, _<_}
 use native.Mathlib.Omega.{arith}
 use native.Mathlib.Nat.{eq-or-lt-of-le}

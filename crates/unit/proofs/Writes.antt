@@ -1,4 +1,4 @@
--- Every write to a unit in which the primary c is held: it takes a target of c, or leaves all of its group but priority and status.
+-- A write while the primary c is held either changes its target or nothing of its group but the priority and, to clear it, the status bit.
 use Prim.Native.Nat.{ℕ, zero, suc, _+_, _-_, _*_, _/_, _%_, _≤_, _<_}
 use native.Mathlib.Omega.{arith}
 use mathlib.Core.Bool.{Bool, true, false, _&&_}

@@ -53,7 +53,7 @@ pub record Always : Type 0 where
   pub shown : (calls : List Call) (s : State) → StateOf calls s → (p : ℕ) → p < 16 → stepping s p ≡ true → GroupShown p s
   -- an initialised channel that is not bound shows bit 15 of its CHANNEL_CONTROL
   pub rests : (calls : List Call) (s : State) → StateOf calls s → (j : ℕ) → j < 16 → isBound s j ≡ false → (channel s j) .initialised ≡ true → pin s j ≡ bitOf (channelControl s j) 15
-  -- a pin changes in a tick only by an initialise of its channel or by a match of its group
+  -- where a tick changes a pin, its channel was initialised or a match of its group acted
   pub pins : (calls : List Call) (s : State) → StateOf calls s → (j : ℕ) → j < 16 → pin (tick s) j ≢ pin s j → ByInitialise j s ⊎ ByMatch j s
   -- a position changes in a tick only while its group is under way, so only while each of its channels is set up
   pub moves : (calls : List Call) (s : State) → StateOf calls s → (p : ℕ) → p < 16 → position (tick s) p ≢ position s p → (stepping s p ≡ true) × GroupShown p s

@@ -70,7 +70,7 @@ isStepOf c v (AtRegister i) = eqb i (hsrrOf c) && (ltb c 16 && eqb (field 2 v (2
 isStepOf c v (AtWord j i) = false
 isStepOf c v Nowhere = false
 
--- a target is taken when a write of DESIRED_POSITION is
+-- a taken write to the target's word is a target taken
 unfoldable pub eventOf : ℕ → Act → State → Event
 eventOf c Ticks s = Tick
 eventOf c (Writes a v) s = pick (isTargetOf c (place a) && isTaken ((writeOf s a v) .answer)) Target Other
@@ -80,7 +80,7 @@ unfoldable pub moments : ℕ → State → List Act → List Moment
 moments c s [] = []
 moments c s (x ∷ xs) = record { was = see c s; event = eventOf c x s; is = see c (does x s) } ∷ moments c (does x s) xs
 
--- a request sets a resting motor going: a taken step request whose primary was not bound
+-- the beginning of a run: of an unbound primary a step request is taken
 pub record SetsGoing (c a v : ℕ) (s : State) : Type 0 where
   pub step : isStepOf c v (place a) ≡ true
   pub taken : isTaken ((writeOf s a v) .answer) ≡ true

@@ -33,7 +33,7 @@ pub record CallsAre : Type 0 where
 unfoldable pub firstPeriod : ℕ → State → ℕ
 firstPeriod c s = period (cntl0 s c) (cntl1 s c) 1
 
--- arrival: every channel of the group is unbound, and a write of CURRENT_POSITION is taken again
+-- what the arrival gives back: no channel of the group is bound, and CURRENT_POSITION can be written
 pub record Freed (c : ℕ) (s : State) : Type 0 where
   pub unbound : (j : ℕ) → c ≤ j → j ≤ last s c → isBound s j ≡ false
   pub writable : (v : ℕ) → isTaken ((writeOf s (0xf04 + 16 * c) v) .answer) ≡ true
