@@ -20,7 +20,9 @@ use Rattle.motor.specs.GroupCount.{SetGoing}
 use Rattle.unit.specs.declared.State.{State}
 use Rattle.unit.specs.declared.Channel.{Channel}
 use Rattle.unit.specs.TheUnit.{idle, withReg, withChannel, each, any, hsrrOf, reg, request, withRequest, status, enabled, channel, withPhase, word, position, target, nextRate, top, last, cntl0, cntl1, size, stepping, reaches, isBound}
-use Rattle.unit.specs.Gate.{Place, AtRegister, AtWord, Nowhere, place, isFree, otherwiseZero, spanGood, isReady, groupReady, patternGood, rampGood, targetGood, requested, requestedOne, Asked, askChannel, andThen, askChannels, askRegister, askPlace}
+use Rattle.unit.specs.declared.Place.{Place}
+use Rattle.unit.specs.declared.Place.the-variants.{AtRegister, AtWord, Nowhere}
+use Rattle.unit.specs.Gate.{place, isFree, otherwiseZero, spanGood, isReady, groupReady, patternGood, rampGood, targetGood, requested, requestedOne, Asked, askChannel, andThen, askChannels, askRegister, askPlace}
 use Rattle.unit.specs.Calls.{answeredBy, writeOf}
 use Rattle.unit.specs.Moments.{Writes as writes, does, isTaken, isStepOf, SetsGoing}
 use Rattle.unit.proofs.Reset.{Sized}

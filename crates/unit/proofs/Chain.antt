@@ -22,7 +22,9 @@ use Rattle.unit.specs.declared.Verdict.{Verdict}
 use Rattle.unit.specs.declared.Verdict.the-variants.{Taken as Does, Refused as Stops}
 use Rattle.unit.specs.TheUnit.{any, request, enabled, status, position, target, nextRate, stepping, reaches, isBound}
 use Rattle.unit.specs.OneTick.{tick}
-use Rattle.unit.specs.Gate.{Place, AtRegister, AtWord, Nowhere, place, isPlace, inList, askWord, askPlace, gate, done}
+use Rattle.unit.specs.declared.Place.{Place}
+use Rattle.unit.specs.declared.Place.the-variants.{AtRegister, AtWord, Nowhere}
+use Rattle.unit.specs.Gate.{place, isPlace, inList, askWord, askPlace, gate, done}
 use Rattle.unit.specs.Calls.{answeredBy, writeOf}
 use Rattle.unit.specs.Moments.{Act as UnitAct, Ticks as ticks, Writes as writes, Nothing as nothing, does, through, see, isTaken, isTargetOf, eventOf, moments}
 use Rattle.unit.proofs.Look.{look}

@@ -14,7 +14,8 @@ use Rattle.motor.specs.Group.{bound}
 use Rattle.unit.specs.declared.State.{State}
 use Rattle.unit.specs.declared.Channel.{Channel}
 use Rattle.unit.specs.TheUnit.{withPhase, last, withReg, withRequest, withInitialised, withWord, withWords, cisr, function, channel, word, channelControl, pinControl, modCount, nextRate, size, stepping}
-use Rattle.unit.specs.Gate.{mayInitialise, Place, place, isFree, isStepper, isReady, groupReady, showsPattern, patternGood, otherwiseZero, spanGood, requested, askChannel, askChannels, askPlace, gate, stored}
+use Rattle.unit.specs.declared.Place.{Place}
+use Rattle.unit.specs.Gate.{mayInitialise, place, isFree, isStepper, isReady, groupReady, showsPattern, patternGood, otherwiseZero, spanGood, requested, askChannel, askChannels, askPlace, gate, stored}
 use Rattle.unit.specs.Calls.{answeredBy, writeOf}
 use Rattle.unit.specs.Moments.{Writes as writes, acts, does}
 use Rattle.unit.specs.Always.{ChannelShown, GroupShown}

@@ -21,7 +21,8 @@ use Rattle.unit.specs.declared.Channel.{Channel}
 use Rattle.unit.specs.TheUnit.{cisr, resetState, withReg, withTime, withPins, withChannel, withWords, each, request, withRequest, enabled, withStatus, withPin, withInitialised, withLevel, withPhase, word, withWord, channelControl, pinControl, modCount, size, stepping}
 use Rattle.unit.specs.Stepping.{pinOut, pinsOut, nextCount, turnedOnce, prepared, matchSet, stepped, outcome}
 use Rattle.unit.specs.OneTick.{matchOf, matched, initialise, stepRequest, requestServed, matchServed, served, clocked, tick}
-use Rattle.unit.specs.Gate.{Place, askPlace, requested, requestedOne, stored}
+use Rattle.unit.specs.declared.Place.{Place}
+use Rattle.unit.specs.Gate.{askPlace, requested, requestedOne, stored}
 use Rattle.unit.proofs.Walk.{IfTaken, word-yes, PlaceGood, walk-place}
 use Rattle.unit.proofs.Reset.{same-all, Sized, sized-reset}
 use Rattle.unit.proofs.Access.{sized-reg, sized-time, sized-pin, sized-channel, sized-word}

@@ -13,7 +13,9 @@ use Rattle.motor.specs.declared.Phase.{Phase}
 use Rattle.unit.specs.declared.State.{State}
 use Rattle.unit.specs.declared.Channel.{Channel}
 use Rattle.unit.specs.TheUnit.{each, withReg, withRequest, withPhase, withChannel, withInitialised, withWord, withWords, cisr, hsrrOf, reg, channel, word, stepping}
-use Rattle.unit.specs.Gate.{Place, AtRegister, AtWord, Nowhere, place, requested, requestedOne, askRegister, askPlace, stored}
+use Rattle.unit.specs.declared.Place.{Place}
+use Rattle.unit.specs.declared.Place.the-variants.{AtRegister, AtWord, Nowhere}
+use Rattle.unit.specs.Gate.{place, requested, requestedOne, askRegister, askPlace, stored}
 use Rattle.unit.specs.Calls.{writeOf}
 use Rattle.unit.specs.Moments.{isStepOf}
 use Rattle.unit.specs.Leaves.{WordLeaves, RegisterLeaves, WritesLeave}

@@ -27,7 +27,8 @@ use Rattle.unit.specs.TheUnit.{each, withReg, withChannel, withInitialis
 use Rattle.unit.specs.Stepping.{nextCount, turnedOnce}
 use Rattle.unit.specs.OneStep.{actsAt}
 use Rattle.unit.specs.OneTick.{matched, clocked, tick}
-use Rattle.unit.specs.Gate.{Place, otherwiseZero, spanGood, requested, keepsOrFree, askPlace, stored}
+use Rattle.unit.specs.declared.Place.{Place}
+use Rattle.unit.specs.Gate.{otherwiseZero, spanGood, requested, keepsOrFree, askPlace, stored}
 use Rattle.unit.proofs.Access.{channel-other, word-other, reg-same, reg-other, hsrr-range}
 use Rattle.unit.specs.Always.{ChannelShown, GroupShown}
 use Rattle.unit.proofs.Alone.{Fades, fades-tick, same-last, last-small}

@@ -22,7 +22,9 @@ use Rattle.motor.proofs.Arrival.{arrives}
 use Rattle.motor.proofs.Term3.{every-count}
 use Rattle.unit.specs.declared.State.{State}
 use Rattle.unit.specs.TheUnit.{target, resetState, cisr, reg, status, exists, cntl0, cntl1, last, stepping, reaches, isBound}
-use Rattle.unit.specs.Gate.{gate, Place, AtWord, place, isFree, askWord, askPlace, stored}
+use Rattle.unit.specs.declared.Place.{Place}
+use Rattle.unit.specs.declared.Place.the-variants.{AtWord}
+use Rattle.unit.specs.Gate.{gate, place, isFree, askWord, askPlace, stored}
 use Rattle.unit.specs.Calls.{answeredBy, writeOf}
 use Rattle.unit.specs.Moments.{Act, Writes, acts, does, through, see, isTaken, isTargetOf, eventOf, moments}
 use Rattle.unit.specs.Term3.{firstPeriod, Freed, Run, atRequest, atStart, atCount, atEnd, momentsGone, momentsNow, Cut, Term3}

@@ -15,7 +15,9 @@ use Rattle.unit.specs.declared.Deed.the-variants.{Parameter, Register, R
 use Rattle.unit.specs.declared.Verdict.{Verdict}
 use Rattle.unit.specs.declared.Verdict.the-variants.{Taken as Does, Refused as Stops}
 use Rattle.unit.specs.TheUnit.{withReg, all, each, cisr, reg, request, exists, target, top, cntl0, cntl1, stepping}
-use Rattle.unit.specs.Gate.{Place, AtRegister, AtWord, Nowhere, place, isFree, isStepper, mayInitialise, spanGood, groupReady, patternGood, rampGood, targetGood, requested, requestedOne, Asked, Yes, No, askInitialise, askStep, askChannel, andThen, askChannels, verdictOf, keepsOrFree, askRegister, askWord, askPlace, stored, done}
+use Rattle.unit.specs.declared.Place.{Place}
+use Rattle.unit.specs.declared.Place.the-variants.{AtRegister, AtWord, Nowhere}
+use Rattle.unit.specs.Gate.{place, isFree, isStepper, mayInitialise, spanGood, groupReady, patternGood, rampGood, targetGood, requested, requestedOne, Asked, Yes, No, askInitialise, askStep, askChannel, andThen, askChannels, verdictOf, keepsOrFree, askRegister, askWord, askPlace, stored, done}
 use Rattle.unit.specs.Calls.{answeredBy}
 use Rattle.unit.specs.Moments.{isTaken}
 use Rattle.unit.proofs.Tests.{and-left, and-right}

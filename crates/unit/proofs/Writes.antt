@@ -17,7 +17,9 @@ use Rattle.motor.proofs.Counts.{aimed-sound}
 use Rattle.unit.specs.declared.Channel.{Channel}
 use Rattle.unit.specs.declared.State.{State}
 use Rattle.unit.specs.TheUnit.{withReg, withWords, cisr, hsrrOf, reg, request, enabled, status, channel, withInitialised, word, withWord, exists, target, top, last, stepping, reaches, withChannel}
-use Rattle.unit.specs.Gate.{Place, AtWord, isFree, targetGood, askWord, askPlace, stored}
+use Rattle.unit.specs.declared.Place.{Place}
+use Rattle.unit.specs.declared.Place.the-variants.{AtWord}
+use Rattle.unit.specs.Gate.{isFree, targetGood, askWord, askPlace, stored}
 use Rattle.unit.proofs.Reset.{Sized}
 use Rattle.unit.proofs.Access.{sized-reg, sized-word, word-same, word-other, reg-same, reg-other, hsrr-range, sized-channel, channel-keeps}
 use Rattle.unit.proofs.Look.{look, look-word-far, look-initialised}

@@ -12,7 +12,9 @@ use Rattle.unit.specs.declared.Answer.the-variants.{Taken, Refused}
 use Rattle.unit.specs.declared.Answered.{Answered}
 use Rattle.unit.specs.TheUnit.{reg, word, exists}
 use Rattle.unit.specs.OneTick.{afterTicks}
-use Rattle.unit.specs.Gate.{Place, AtRegister, AtWord, Nowhere, place, Reads, inList, gate, done, advanceGood}
+use Rattle.unit.specs.declared.Place.{Place}
+use Rattle.unit.specs.declared.Place.the-variants.{AtRegister, AtWord, Nowhere}
+use Rattle.unit.specs.Gate.{place, Reads, inList, gate, done, advanceGood}
 
 -- ---- read
 

@@ -5,7 +5,8 @@ use mathlib.Core.Logic.{_≢_}
 use mathlib.Core.Path.{_≡_}
 use Rattle.unit.specs.declared.State.{State}
 use Rattle.unit.specs.TheUnit.{reg, channel, word}
-use Rattle.unit.specs.Gate.{AtRegister, AtWord, place}
+use Rattle.unit.specs.declared.Place.the-variants.{AtRegister, AtWord}
+use Rattle.unit.specs.Gate.{place}
 use Rattle.unit.specs.Calls.{writeOf}
 use Rattle.unit.specs.Moments.{isStepOf}
 

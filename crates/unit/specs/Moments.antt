@@ -13,7 +13,9 @@ use Rattle.unit.specs.declared.Answer.{Answer}
 use Rattle.unit.specs.declared.Answer.the-variants.{Taken, Refused}
 use Rattle.unit.specs.TheUnit.{hsrrOf, enabled, status, position, target, nextRate, isBound}
 use Rattle.unit.specs.OneTick.{tick}
-use Rattle.unit.specs.Gate.{Place, AtRegister, AtWord, Nowhere, place, advanceGood}
+use Rattle.unit.specs.declared.Place.{Place}
+use Rattle.unit.specs.declared.Place.the-variants.{AtRegister, AtWord, Nowhere}
+use Rattle.unit.specs.Gate.{place, advanceGood}
 use Rattle.unit.specs.Calls.{writeOf, Call, Read, Write, Advance}
 
 -- what happens, one after another: a tick, a write, taken or not, or nothing: a read, or an advance that is refused

@@ -34,14 +34,23 @@ pub enum Reading {
     Refused(u8),
 }
 
+// What an address stands for.
+pub enum Place {
+    // a register, by its place in `regs`
+    AtRegister(u16),
+    // a parameter word: the channel, and which of its words
+    AtWord(u16, u16),
+    Nowhere,
+}
+
 // What a taken write does.
 pub enum Deed {
     // a missing word is written
     Nothing,
     // a parameter word, by its place in `words`, with its value
-    Parameter(u8, u16),
+    Parameter(u16, u16),
     // a register, by its place in `regs`, with its value
-    Register(u8, u16),
+    Register(u16, u16),
     // CISR keeps these bits
     Keep(u16),
     // the requests of a word, its lowest channel first

@@ -1,0 +1,108 @@
+// The group of a primary: its channels, its motor, and whether it is bound.
+ghost use mathlib.Core.Path.{_≡_};
+ghost use Rattle.motor.specs.Group.{bound};
+ghost use Rattle.unit.specs.TheUnit.{size, motorOf, stepping, reaches, isBound};
+ghost use Rattle.unit.specs.Gate.{isFree, requested};
+use crate::parameters;
+use crate::records;
+use crate::registers;
+use motor::Motor;
+use motor::Phase;
+use unit::State;
+
+// How many channels the group of c has.
+pub fn size(s: State, c: u16) -> u16
+    ensures { λ r. ⌜ r ≡ size s c ⌝ }
+{
+    let l = parameters::last(s, c);
+    if c <= l { l - c + 1 } else { 0 }
+}
+
+pub fn motor_of(s: State, c: u16) -> Motor
+    ensures { λ r. ⌜ r ≡ motorOf s c ⌝ }
+{
+    let x = records::channel(s, c);
+    let way = x.way;
+    Motor {
+        position: parameters::word(s, c, 2),
+        target: parameters::word(s, c, 3),
+        rate: parameters::next_rate(s, c),
+        top: parameters::top(s, c),
+        way: way,
+    }
+}
+
+// A phase in which the group is bound.
+pub fn bound(p: Phase) -> bool
+    ensures { λ r. ⌜ r ≡ bound p ⌝ }
+{
+    match p {
+        Phase::Resting => false,
+        Phase::Requested => true,
+        Phase::Armed(_) => true,
+        Phase::Matched(_) => true,
+    }
+}
+
+// The group of the primary c is bound.
+pub fn stepping(s: State, c: u16) -> bool
+    ensures { λ r. ⌜ r ≡ stepping s c ⌝ }
+{
+    let x = records::channel(s, c);
+    let phase = x.phase;
+    bound(phase)
+}
+
+// The group of p is bound and has the channel c.
+fn reaches(s: State, c: u16, p: u16) -> bool
+    ensures { λ r. ⌜ r ≡ reaches s c p ⌝ }
+{
+    if !stepping(s, p) {
+        return false;
+    }
+    if p <= c {
+        return c <= parameters::last(s, p);
+    }
+    false
+}
+
+// Some bound group has the channel c.
+pub fn is_bound(s: State, c: u16) -> bool
+    ensures { λ r. ⌜ r ≡ isBound s c ⌝ }
+{
+    let mut found = stepping(s, c);
+    for p in 0..16 {
+        if reaches(s, c, p) {
+            found = true;
+        }
+    }
+    found
+}
+
+// Question 2: unbound and without a pending request.
+pub fn is_free(s: State, c: u16) -> bool
+    ensures { λ r. ⌜ r ≡ isFree s c ⌝ }
+{
+    if is_bound(s, c) {
+        return false;
+    }
+    registers::request(s, c) == 0
+}
+
+// What a taken request of channel c does: 2 initialise, 3 step, which binds a group at rest.
+pub fn requested(s: State, c: u16, r: u16) -> State
+    ensures { λ out. ⌜ out ≡ requested s c r ⌝ }
+{
+    if r == 2 {
+        return registers::with_request(s, c, 2);
+    }
+    if r != 3 {
+        return s;
+    }
+    if stepping(s, c) {
+        return registers::with_request(s, c, 3);
+    }
+    let x = records::channel(s, c);
+    let way = x.way;
+    registers::with_request(records::with_phase(s, c, way, Phase::Requested), c, 3)
+}
