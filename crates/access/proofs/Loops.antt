@@ -1,12 +1,14 @@
 -- Loops over channels: one channel more, and what bounds a group's numbers.
 use Prim.Native.Nat.{ℕ, _+_, _≤_, _<_}
-use mathlib.Core.Bool.{Bool, true, false, _||_}
+use mathlib.Core.Bool.{Bool, true, false, _&&_, _||_}
 use mathlib.Core.Path.{_≡_, refl}
 use native.Mathlib.Numerals.{add-one}
 use native.Mathlib.Omega.{arith}
+use lib.Dec.{leb}
 use Rattle.words.proofs.FieldLaws.{field-lt}
 use Rattle.unit.specs.declared.State.{State}
-use Rattle.unit.specs.TheUnit.{each, any, word, modCount, size}
+use Rattle.unit.specs.TheUnit.{each, any, word, modCount, last, size, stepping, reaches}
+use Rattle.unit.proofs.Tests.{and-no}
 use Rattle.unit.proofs.Alone.{last-small}
 
 or-true : (x y : Bool) → (x || (y || true)) ≡ true
@@ -47,3 +49,16 @@ group-end s c h = omega (arith, h, last-small s c)
 pub count-small : (s : State) (c : ℕ) → modCount s c < 16
 unfolding modCount
 count-small s c = field-lt 4 (word s c 4) 8
+
+-- whether the group of p reaches the channel c, by what was asked of it
+pub reaches-yes : (s : State) (c p : ℕ) → stepping s p ≡ true → (leb p c && leb c (last s p)) ≡ true → reaches s c p ≡ true
+unfolding reaches
+reaches-yes s c p h e = rw (h, e)
+
+pub reaches-past : (s : State) (c p : ℕ) → (leb p c && leb c (last s p)) ≡ false → reaches s c p ≡ false
+unfolding reaches
+reaches-past s c p e = rw e (and-no (stepping s p) false refl)
+
+pub reaches-resting : (s : State) (c p : ℕ) → stepping s p ≡ false → reaches s c p ≡ false
+unfolding reaches
+reaches-resting s c p h = rw h

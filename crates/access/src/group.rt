@@ -1,7 +1,9 @@
 // The group of a primary: its channels, its motor, and whether it is bound.
 ghost use mathlib.Core.Path.{_≡_};
+ghost use mathlib.Core.Bool.{_&&_};
+ghost use lib.Dec.{leb};
 ghost use Rattle.motor.specs.Group.{bound};
-ghost use Rattle.unit.specs.TheUnit.{size, motorOf, stepping, reaches, isBound};
+ghost use Rattle.unit.specs.TheUnit.{last, size, motorOf, stepping, isBound};
 ghost use Rattle.unit.specs.Gate.{isFree, requested};
 use crate::parameters;
 use crate::records;
@@ -53,13 +55,10 @@ pub fn stepping(s: State, c: u16) -> bool
     bound(phase)
 }
 
-// The group of p is bound and has the channel c.
-fn reaches(s: State, c: u16, p: u16) -> bool
-    ensures { λ r. ⌜ r ≡ reaches s c p ⌝ }
+// The group of p, bound or not, has the channel c.
+fn spans(s: State, c: u16, p: u16) -> bool
+    ensures { λ r. ⌜ r ≡ (leb p c && leb c (last s p)) ⌝ }
 {
-    if !stepping(s, p) {
-        return false;
-    }
     if p <= c {
         return c <= parameters::last(s, p);
     }
@@ -72,8 +71,12 @@ pub fn is_bound(s: State, c: u16) -> bool
 {
     let mut found = stepping(s, c);
     for p in 0..16 {
-        if reaches(s, c, p) {
-            found = true;
+        let x = s.channels[p as usize];
+        let phase = x.phase;
+        if bound(phase) {
+            if spans(s, c, p) {
+                found = true;
+            }
         }
     }
     found

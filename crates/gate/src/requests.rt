@@ -127,7 +127,10 @@ pub fn ask_channels(s: State, a: u16, v: u16) -> Answered
         state: s,
     };
     for k in 0..8 {
-        t = ask_next(t, a + k, field::pair(v, a + k));
+        let r = field::pair(v, a + k);
+        if 2 <= r {
+            t = ask_next(t, a + k, r);
+        }
     }
     t
 }

@@ -28,7 +28,10 @@ fn requested_all(mut s: State, a: u16, v: u16) -> State
     ensures { λ r. ⌜ r ≡ each 8 a (requestedOne v) s ⌝ }
 {
     for k in 0..8 {
-        s = group::requested(s, a + k, field::pair(v, a + k));
+        let r = field::pair(v, a + k);
+        if 2 <= r {
+            s = group::requested(s, a + k, r);
+        }
     }
     s
 }

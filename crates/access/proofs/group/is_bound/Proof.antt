@@ -2,28 +2,40 @@ use borrow.Author.Needs.{needs}
 use native.Mathlib.Omega.{arith}
 use mathlib.Core.Path.{_≡_, sym, _∙_}
 use mathlib.Core.Logic.{⊎-elim}
-use Rattle.access.proofs.Loops.{any-yes, any-not, or-no}
 use mathlib.Core.Bool.{_||_}
 use Prim.Native.Nat.{_+_, _-_, _≤_}
-use Rattle.unit.specs.TheUnit.{any, stepping, reaches, isBound}
+use Rattle.unit.specs.TheUnit.{any, channel, stepping, reaches, isBound}
+use Rattle.access.proofs.Loops.{or-no, any-yes, any-not, reaches-yes, reaches-past, reaches-resting}
 use Rattle.access.proofs.group.is_bound.Statement.{statement}
 use Rattle.access.proofs.group.is_bound.Tie as tie
 
 abbrev Inv-loop : tie.InvT-loop
-Inv-loop s c found₀ p₀ found p = (p ≤ 16) × (found ≡ (stepping s c || any p 0 (reaches s c)))
+Inv-loop c s found₀ p₀ found p = (p ≤ 16) × (found ≡ (stepping s c || any p 0 (reaches s c)))
 
 abbrev μ-loop : tie.MeasureT-loop
-μ-loop s c found₀ p₀ found p = 16 - p
+μ-loop c s found₀ p₀ found p = 16 - p
 
 stepping-requires : tie.Need-stepping-requires Inv-loop μ-loop
 stepping-requires c κs = search needs
 
 loop-holds : tie.Need-loop-holds Inv-loop μ-loop
 unfolding any
-loop-holds c = (omega arith, rw (c .stepping .ensures) (sym (or-no (stepping (c .before .args .s) (c .before .args .c)))))
+loop-holds c = (omega arith, rw (c .stepping .ensures) (sym (or-no (stepping (c .before .args .t1) (c .before .args .c)))))
 
-reaches-requires : tie.Need-reaches-requires Inv-loop μ-loop
-reaches-requires c κs = search needs
+cast-x : tie.Need-cast-x Inv-loop μ-loop
+cast-x c = search needs
+
+mul-x : tie.Need-mul-x Inv-loop μ-loop
+mul-x c = search needs
+
+element-copy-out-x : tie.Need-element-copy-out-x Inv-loop μ-loop
+element-copy-out-x c = search needs
+
+bound-requires : tie.Need-bound-requires Inv-loop μ-loop
+bound-requires c κs = search needs
+
+spans-requires : tie.Need-spans-requires Inv-loop μ-loop
+spans-requires c κs = search needs
 
 add-p : tie.Need-add-p Inv-loop μ-loop
 add-p c = omega arith
@@ -32,17 +44,20 @@ loop-less : tie.Need-loop-less Inv-loop μ-loop
 loop-less c = omega arith
 
 loop-again : tie.Need-loop-again Inv-loop μ-loop
+unfolding stepping channel
 loop-again c =
-    let l = c .before .before .before .loop in
-    let a = c .before .before .before .before .before .args in
-    let e = c .before .reaches .ensures in
-    let f = reaches (a .s) (a .c) in
-    let step : c .if1 .found ≡ (stepping (a .s) (a .c) || any (l .p + 1) 0 f) =
+    let l = c .before .before .before .before .loop in
+    let s = c .before .before .before .before .before .before .args .t1 in
+    let d = c .before .before .before .before .before .before .args .c in
+    let e : c .before .bound .result ≡ stepping s (l .p) = c .before .bound .ensures in
+    let next : c .if1 .found ≡ (stepping s d || any (l .p + 1) 0 (reaches s d)) =
     ⊎-elim
-    (λ w. w .1 ∙ any-yes (stepping (a .s) (a .c)) (l .p) 0 (l .p) f (omega arith) (sym e ∙ w .0 .taken))
-    (λ w. w .1 ∙ (l .inv .1 ∙ any-not (stepping (a .s) (a .c)) (l .p) 0 (l .p) f (omega arith) (sym e ∙ w .0 .left)))
+    (λ w. w .3 ∙ any-yes (stepping s d) (l .p) 0 (l .p) (reaches s d) (omega arith) (reaches-yes s d (l .p) (sym e ∙ w .0 .taken) (sym (w .1 .ensures) ∙ w .2 .taken)))
+    (⊎-elim
+    (λ w. w .3 ∙ (l .inv .1 ∙ any-not (stepping s d) (l .p) 0 (l .p) (reaches s d) (omega arith) (reaches-past s d (l .p) (sym (w .1 .ensures) ∙ w .2 .left))))
+    (λ w. w .1 ∙ (l .inv .1 ∙ any-not (stepping s d) (l .p) 0 (l .p) (reaches s d) (omega arith) (reaches-resting s d (l .p) (sym e ∙ w .0 .left)))))
     (c .if1 .came) in
-    (omega arith, step)
+    (omega arith, next)
 
 returns : tie.Need-returns Inv-loop μ-loop
 unfolding isBound
@@ -58,7 +73,11 @@ is-bound-spec =
     μ-loop
     stepping-requires
     loop-holds
-    reaches-requires
+    cast-x
+    mul-x
+    element-copy-out-x
+    bound-requires
+    spans-requires
     add-p
     loop-less
     loop-again

@@ -1,0 +1,5 @@
+pub mod Claims
+pub mod Parsing
+pub mod Placing
+pub mod Printing
+pub mod Replying
