@@ -33,7 +33,7 @@ pub fn may_initialise(s: State, c: u16) -> bool
     field::pair(control, 0) == 2
 }
 
-// Bits 15 to 12 and 7 to 4 are 0.
+// The two nibbles of words 4 and 5 that no field has are 0.
 fn otherwise_zero(w: u16) -> bool
     ensures { λ r. ⌜ r ≡ otherwiseZero w ⌝ }
 {

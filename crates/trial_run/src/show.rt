@@ -1,0 +1,108 @@
+// What the trials print, on standard output.
+use libc::STDOUT_FILENO;
+use unit::Answer;
+use unit::Answered;
+use unit::Reading;
+use words::field;
+
+pub fn text(t: &[u8]) {
+    io::write_all(STDOUT_FILENO, t);
+}
+
+pub fn decimal(n: u16) {
+    io::print_decimal(STDOUT_FILENO, n as u64);
+}
+
+pub fn number(n: u16) {
+    text(b" ");
+    decimal(n);
+}
+
+pub fn colon() {
+    text(b":");
+}
+
+pub fn end() {
+    text(b"\n");
+}
+
+// A number after its name.
+pub fn named(name: &[u8], n: u16) {
+    text(name);
+    number(n);
+}
+
+// A word after its name.
+pub fn named_word(name: &[u8], w: u16) {
+    text(name);
+    text(b" $");
+    hex(w);
+}
+
+// A number and a figure that belongs to it.
+pub fn pair(n: u16, figure: u16) {
+    number(n);
+    colon();
+    decimal(figure);
+}
+
+pub fn route(name: &[u8], from: u16, to: u16) {
+    named(name, from);
+    named(b" to", to);
+    colon();
+}
+
+// Four hexadecimal digits, the highest first.
+fn hex(w: u16) {
+    digit(field::nibble(w, 3));
+    digit(field::nibble(w, 2));
+    digit(field::nibble(w, 1));
+    digit(field::nibble(w, 0));
+}
+
+fn digit(d: u16) {
+    let at = d % 16;
+    let digits = b"0123456789ABCDEF";
+    let one = [digits[at as usize]];
+    text(&one);
+}
+
+pub fn either(on: bool, yes: &[u8], no: &[u8]) {
+    if on {
+        text(yes);
+    } else {
+        text(no);
+    }
+}
+
+pub fn answer(w: Answered) {
+    colon();
+    let a = w.answer;
+    verdict(a);
+    end();
+}
+
+// Taken, or the number of the question that said no.
+fn verdict(a: Answer) {
+    match a {
+        Answer::Taken => text(b" taken"),
+        Answer::Refused(n) => refusal(n),
+    }
+}
+
+fn refusal(n: u8) {
+    named(b" N", n as u16);
+}
+
+// The word that was read, or the refusal.
+pub fn reading(r: Reading) {
+    colon();
+    match r {
+        Reading::Word(w) => {
+            text(b" ");
+            hex(w);
+        }
+        Reading::Refused(n) => refusal(n),
+    }
+    end();
+}
