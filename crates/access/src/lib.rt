@@ -2,5 +2,6 @@
 // and storing it changes nothing.
 pub mod group;
 pub mod parameters;
+pub mod pending;
 pub mod records;
 pub mod registers;

@@ -1,5 +1,6 @@
 // The calls of the timer unit: reset, read, write, advance, and its interrupt line.
 mod deeds;
+mod quiet;
 mod ticks;
 
 ghost use mathlib.Core.Path.{_≡_};

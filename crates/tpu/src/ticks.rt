@@ -1,30 +1,79 @@
-// Ticks in a row, each with its pin word.
+// Ticks in a row, each with its pin word. Quiet ticks are made at once.
 ghost use mathlib.Core.Path.{_≡_};
 ghost use mathlib.Core.List.{_++_};
 ghost use Prim.Native.Nat.{_≤_, _<_};
-ghost use lib.ListN.{length, set, drop};
+ghost use lib.ListN.{length, drop, replicate};
+ghost use Rattle.unit.specs.TheUnit.{withTime};
 ghost use Rattle.unit.specs.OneTick.{afterTicks};
 ghost use Rattle.unit.specs.Calls.{pinWords};
+use crate::quiet;
 use unit::State;
+use words::clock;
 
-// The pin word goes to the first place of the rest of the list.
-fn put_first(rest: &mut [u16], w: u16)
-    requires { ⌜ 0 < length (now rest) ⌝ }
-    ensures { λ _. ⌜ now (rest .exit) ≡ set (now (rest .entry)) 0 w ⌝ }
-{
-    rest[0] = w;
+// Some ticks at once, which all end with the same pin word.
+struct Leap {
+    ticks: usize,
+    state: State,
 }
 
-// Each tick lends on the rest of the list from its own place.
+fn at_time(mut s: State, t: u16) -> State
+    ensures { λ r. ⌜ r ≡ withTime s t ⌝ }
+{
+    s.tcr1 = t;
+    s
+}
+
+// The quiet ticks, or one tick in which something happens; at most as many as there is room for.
+fn onward(s: State, room: usize) -> Leap
+    requires { ⌜ 0 < room ⌝ }
+    ensures { λ r. ⌜ (0 < r .ticks) × (r .ticks ≤ room) × (r .state ≡ afterTicks (r .ticks) s) × (pinWords (r .ticks) s ≡ replicate (r .ticks) (r .state .pins)) ⌝ }
+{
+    let q = fitting(quiet::quiet_ticks(s), room);
+    if q == 0 {
+        let next = tick::tick(s);
+        return Leap {
+            ticks: 1,
+            state: next,
+        };
+    }
+    let next = at_time(s, clock::later(s.tcr1, q));
+    Leap {
+        ticks: q as usize,
+        state: next,
+    }
+}
+
+// No more than the room.
+fn fitting(q: u16, room: usize) -> u16
+    ensures { λ r. ⌜ (r ≤ q) × (r ≤ room) ⌝ }
+{
+    if room < q as usize { room as u16 } else { q }
+}
+
+// The pin word goes to the first places of the rest of the list.
+fn fill(rest: &mut [u16], k: usize, w: u16)
+    requires { ⌜ k ≤ length (now rest) ⌝ }
+    ensures { λ _. ⌜ now (rest .exit) ≡ replicate k w ++ drop k (now (rest .entry)) ⌝ }
+{
+    let mut i: usize = 0;
+    while i < k {
+        rest[i] = w;
+        i = i + 1;
+    }
+}
+
+// The rest of the list is lent on from the present tick.
 pub fn run(mut s: State, n: usize, lent: &mut [u16]) -> State
     requires { ⌜ n ≤ length (now lent) ⌝ }
     ensures { λ r. ⌜ (r ≡ afterTicks n s) × (now (lent .exit) ≡ pinWords n s ++ drop n (now (lent .entry))) ⌝ }
 {
     let mut i: usize = 0;
     while i < n {
-        s = tick::tick(s);
-        put_first(&mut lent[i..], s.pins);
-        i = i + 1;
+        let l = onward(s, n - i);
+        let next = l.state;
+        s = next;
+        fill(&mut lent[i..], l.ticks, s.pins);
+        i = i + l.ticks;
     }
     s
 }

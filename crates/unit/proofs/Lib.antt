@@ -23,3 +23,5 @@ pub mod LitWrites
 pub mod Every
 pub mod Always
 pub mod Term3
+pub mod Scans
+pub mod Quiet

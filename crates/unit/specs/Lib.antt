@@ -1,6 +1,8 @@
 pub mod TheUnit
 pub mod Stepping
 pub mod OneTick
+pub mod Pending
+pub mod Quiet
 pub mod Gate
 pub mod Calls
 pub mod Moments

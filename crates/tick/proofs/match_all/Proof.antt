@@ -6,7 +6,7 @@ use mathlib.Core.Logic.{⊎-elim}
 use Prim.Native.Nat.{_-_, _≤_}
 use Rattle.unit.specs.TheUnit.{each, channel}
 use Rattle.unit.specs.OneTick.{matched}
-use Rattle.tick.proofs.Scans.{match-acts, match-rests}
+use Rattle.unit.proofs.Scans.{match-acts, match-rests}
 use Rattle.tick.proofs.match_all.Statement.{statement}
 use Rattle.tick.proofs.match_all.Tie as tie
 

@@ -1,4 +1,4 @@
-use Rattle.tick.specs.Pending.{isWanted}
+use Rattle.unit.specs.Pending.{wanted}
 use Rattle.access.proofs.Loops.{each-next}
 use borrow.Author.Needs.{needs}
 use native.Mathlib.Omega.{arith}
@@ -7,7 +7,8 @@ use mathlib.Core.Logic.{⊎-elim}
 use Prim.Native.Nat.{_-_, _≤_, _<_}
 use Rattle.unit.specs.TheUnit.{each, channel, request, reg}
 use Rattle.unit.specs.OneTick.{served}
-use Rattle.tick.proofs.Scans.{priority, serves, passes-over, cpr-in, hsrr-in}
+use Rattle.unit.proofs.Scans.{serves, passes-over}
+use Rattle.access.proofs.Places.{cpr-in, hsrr-in}
 use Rattle.tick.proofs.serve_all.Statement.{statement}
 use Rattle.tick.proofs.serve_all.Tie as tie
 
@@ -77,11 +78,11 @@ loop-less : tie.Need-loop-less Inv-loop μ-loop
 loop-less c = omega arith
 
 loop-again : tie.Need-loop-again Inv-loop μ-loop
-unfolding channel request reg
+unfolding wanted channel request reg
 loop-again c =
     let l = c .before .before .before .before .before .before .before .before .before .before .loop in
     let p = c .before .before .before .pair .ensures in
-    let e : c .before .is-wanted .result ≡ isWanted (priority (l .s) (l .c)) (request (l .s) (l .c)) ((channel (l .s) (l .c)) .phase) =
+    let e : c .before .is-wanted .result ≡ wanted (l .s) (l .c) =
     rw (c .before .is-wanted .ensures, c .before .before .pair2 .ensures, c .before .before .before .pair .ensures, c .before .before .before .before .before .hsrr-of .ensures, c .before .before .before .before .before .before .before .cpr-of .ensures) in
     let step : c .if1 .s ≡ served (l .c) (l .s) =
     ⊎-elim

@@ -1,14 +1,13 @@
 use borrow.Author.Needs.{needs}
-use mathlib.Core.Path.{_≡_, refl, ap, _∙_}
+use mathlib.Core.Path.{_≡_, refl, sym, ap, _∙_}
 use mathlib.Core.List.{_++_}
-use Prim.Native.Nat.{_+_, _-_, _≤_, _<_}
+use Prim.Native.Nat.{_+_, _-_, _≤_}
 use native.Mathlib.Omega.{arith}
-use native.Mathlib.Numerals.{add-one}
-use lib.ListN.{length, drop, length-take, length-drop, length-set, set}
+use lib.ListN.{length, drop, replicate, length-take, length-drop}
 use borrow.Rule.Slice.PartMut.{putMid}
 use Rattle.unit.specs.OneTick.{afterTicks}
 use Rattle.unit.specs.Calls.{pinWords}
-use Rattle.tpu.proofs.Lent.{store-rest, next-word}
+use Rattle.tpu.proofs.Lent.{rest-done, after-add, pins-add, pin-words-long, lent-long}
 use Rattle.tpu.proofs.ticks.run.Statement.{statement}
 use Rattle.tpu.proofs.ticks.run.Tie as tie
 
@@ -23,23 +22,26 @@ loop-holds : tie.Need-loop-holds Inv-loop μ-loop
 unfolding afterTicks pinWords
 loop-holds c = (omega arith, c .before .pre, refl, refl, refl)
 
-tick-requires : tie.Need-tick-requires Inv-loop μ-loop
-tick-requires c κs = search needs
+sub-onward : tie.Need-sub-onward Inv-loop μ-loop
+sub-onward c = omega arith
 
-mul-put-first : tie.Need-mul-put-first Inv-loop μ-loop
-mul-put-first c = omega arith
+onward-requires : tie.Need-onward-requires Inv-loop μ-loop
+onward-requires c κs = omega arith
 
-sub-put-first : tie.Need-sub-put-first Inv-loop μ-loop
-sub-put-first c = omega arith
+mul-fill : tie.Need-mul-fill Inv-loop μ-loop
+mul-fill c = omega arith
 
-part-put-first-start : tie.Need-part-put-first-start Inv-loop μ-loop
-part-put-first-start c = omega arith
+sub-fill : tie.Need-sub-fill Inv-loop μ-loop
+sub-fill c = omega arith
 
-part-put-first-end : tie.Need-part-put-first-end Inv-loop μ-loop
-part-put-first-end c = omega arith
+part-fill-start : tie.Need-part-fill-start Inv-loop μ-loop
+part-fill-start c = omega arith
 
-put-first-requires : tie.Need-put-first-requires Inv-loop μ-loop
-put-first-requires c κs = simp (length-take, length-drop) (omega arith)
+part-fill-end : tie.Need-part-fill-end Inv-loop μ-loop
+part-fill-end c = omega arith
+
+fill-requires : tie.Need-fill-requires Inv-loop μ-loop
+fill-requires c κs = simp (length-take, length-drop) (omega arith)
 
 add-i : tie.Need-add-i Inv-loop μ-loop
 add-i c = omega arith
@@ -48,16 +50,19 @@ loop-less : tie.Need-loop-less Inv-loop μ-loop
 loop-less c = omega arith
 
 loop-again : tie.Need-loop-again Inv-loop μ-loop
-unfolding afterTicks
 loop-again c =
-    let l = c .before .before .before .before .before .before .loop in
-    let a = c .before .before .before .before .before .before .before .before .args in
-    let h : l .i < length (l .lent) = omega arith in
-    let next : c .before .before .before .before .tick .result ≡ afterTicks (l .i + 1) (a .s) = rw (c .before .before .before .before .tick .ensures, add-one, l .inv .3) in
-    let w = c .before .before .before .before .tick .result .pins in
-    let put : putMid (l .i) (length (l .lent) - l .i) (l .lent) (c .before .before .put-first .last .0) ≡ set (l .lent) (l .i) w =
-    rw (c .before .before .put-first .ensures) (store-rest (l .lent) (l .i) w h) in
-    (omega arith, l .inv .1, rw (put, length-set) (l .inv .2), next, put ∙ next-word (l .i) (a .s) (a .lent .now) (l .lent) w (l .inv .4) (omega arith) (ap (λ t. t .pins) next))
+    let l = c .before .before .before .before .before .before .before .before .loop in
+    let a = c .before .before .before .before .before .before .before .before .before .before .args in
+    let o = c .before .before .before .before .before .before .onward in
+    let k = o .result .ticks in
+    let next : o .result .state ≡ afterTicks (l .i + k) (a .s) = o .ensures .2 ∙ (ap (afterTicks k) (l .inv .3) ∙ after-add k (l .i) (a .s)) in
+    let words : pinWords (l .i) (a .s) ++ replicate k (o .result .state .pins) ≡ pinWords (l .i + k) (a .s) =
+    ap (λ x. pinWords (l .i) (a .s) ++ x) (sym (o .ensures .3) ∙ ap (pinWords k) (l .inv .3)) ∙ pins-add k (l .i) (a .s) in
+    let put : putMid (l .i) (length (l .lent) - l .i) (l .lent) (c .before .before .before .fill .last .0) ≡ pinWords (l .i + k) (a .s) ++ drop (l .i + k) (a .lent .now) =
+    rest-done (pinWords (l .i) (a .s)) (replicate k (o .result .state .pins)) (a .lent .now) (l .lent) _ (l .i) k (l .inv .4) (pin-words-long (l .i) (a .s)) (c .before .before .before .fill .ensures)
+    ∙ ap (λ x. x ++ drop (l .i + k) (a .lent .now)) words in
+    let room : l .i + k ≤ a .n = omega (arith, o .ensures .1) in
+    (room, l .inv .1, ap length put ∙ lent-long (l .i + k) (a .s) (a .lent .now) (omega (arith, room, l .inv .1)), next, put)
 
 same-length : tie.Need-same-length Inv-loop μ-loop
 same-length c = search needs
@@ -74,12 +79,13 @@ run-spec =
     Inv-loop
     μ-loop
     loop-holds
-    tick-requires
-    mul-put-first
-    sub-put-first
-    part-put-first-start
-    part-put-first-end
-    put-first-requires
+    sub-onward
+    onward-requires
+    mul-fill
+    sub-fill
+    part-fill-start
+    part-fill-end
+    fill-requires
     add-i
     loop-less
     loop-again

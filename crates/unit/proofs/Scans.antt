@@ -1,20 +1,19 @@
 -- A scan that passes a channel over leaves the state as the definition does, and one that stops there does what it says.
-use Prim.Native.Nat.{ℕ, _*_, _%_, _<_}
+use Prim.Native.Nat.{ℕ}
 use mathlib.Core.Bool.{Bool, true, false, not}
 use mathlib.Core.Path.{_≡_, refl, ap, _∙_}
 use native.Mathlib.Omega.{arith}
 use lib.Dec.{eqb, leb}
 use borrow.Author.Tests.{ne-eqb, leb-false}
 use Rattle.words.specs.Choice.{pick}
-use Rattle.words.specs.Field.{field}
 use Rattle.words.proofs.ChoiceLaws.{not-both}
 use Rattle.motor.specs.declared.Phase.{Phase}
 use Rattle.motor.specs.declared.Phase.the-variants.{Resting, Requested, Armed, Matched}
 use Rattle.unit.specs.declared.State.{State}
-use Rattle.unit.specs.TheUnit.{reg, cprOf, hsrrOf, request, enabled, channel, withPhase}
+use Rattle.unit.specs.TheUnit.{request, enabled, channel, withPhase}
 use Rattle.unit.specs.Stepping.{pinsOut}
 use Rattle.unit.specs.OneTick.{matchOf, matched, requestServed, matchServed, served}
-use Rattle.tick.specs.Pending.{isDue, isMatched, isWanted}
+use Rattle.unit.specs.Pending.{isDue, isMatched, isWanted, priority, wanted}
 
 -- ---- matches
 
@@ -42,16 +41,12 @@ match-rests s c h = not-due-rests ((channel s c) .phase) c s h
 
 -- ---- services
 
--- the two bits of CPR
-abbrev pub priority : State → ℕ → ℕ
-priority s c = field 2 (reg s (cprOf c)) (2 * (c % 8))
-
 wanted-enabled : (b : Bool) (x : Bool) → pick b false x ≡ true → b ≡ false
 wanted-enabled true x h = absurd (not-both h refl)
 wanted-enabled false x h = refl
 
-pub serves : (s : State) (c : ℕ) → isWanted (priority s c) (request s c) ((channel s c) .phase) ≡ true → served c s ≡ matchServed ((channel s c) .phase) c (requestServed c s)
-unfolding isWanted served enabled
+pub serves : (s : State) (c : ℕ) → wanted s c ≡ true → served c s ≡ matchServed ((channel s c) .phase) c (requestServed c s)
+unfolding wanted isWanted served enabled
 serves s c h = rw (wanted-enabled (eqb (priority s c) 0) _ h)
 
 not-matched-rests : (p : Phase) (c : ℕ) (s : State) → isMatched p ≡ false → matchServed p c s ≡ s
@@ -72,17 +67,9 @@ passed-over true q m x y s f g h = refl
 passed-over false true m x y s f g h = absurd (not-both refl h)
 passed-over false false m x y s f g h = f refl ∙ g h
 
-pub passes-over : (s : State) (c : ℕ) → isWanted (priority s c) (request s c) ((channel s c) .phase) ≡ false → served c s ≡ s
-unfolding isWanted served enabled
+pub passes-over : (s : State) (c : ℕ) → wanted s c ≡ false → served c s ≡ s
+unfolding wanted isWanted served enabled
 passes-over s c h =
     let p = (channel s c) .phase in
     passed-over (eqb (priority s c) 0) (leb 2 (request s c)) (isMatched p) (matchServed p c (requestServed c s)) (matchServed p c s) s
     (λ e. ap (matchServed p c) (no-request-rests s c e)) (not-matched-rests p c s) h
-
-pub cpr-in : (c : ℕ) → cprOf c < 12
-unfolding cprOf
-cpr-in c = omega arith
-
-pub hsrr-in : (c : ℕ) → hsrrOf c < 12
-unfolding hsrrOf
-hsrr-in c = omega arith

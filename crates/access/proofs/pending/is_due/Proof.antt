@@ -1,7 +1,7 @@
-use Rattle.tick.specs.Pending.{isDue}
+use Rattle.unit.specs.Pending.{isDue}
 use borrow.Author.Needs.{needs}
-use Rattle.tick.proofs.is_due.Statement.{statement}
-use Rattle.tick.proofs.is_due.Tie as tie
+use Rattle.access.proofs.pending.is_due.Statement.{statement}
+use Rattle.access.proofs.pending.is_due.Tie as tie
 
 enum-told : tie.Need-enum-told
 enum-told c = search needs

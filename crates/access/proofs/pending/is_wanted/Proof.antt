@@ -1,8 +1,8 @@
 use Rattle.words.proofs.ChoiceLaws.{cases}
-use Rattle.tick.specs.Pending.{isWanted}
+use Rattle.unit.specs.Pending.{isWanted}
 use borrow.Author.Needs.{needs}
-use Rattle.tick.proofs.is_wanted.Statement.{statement}
-use Rattle.tick.proofs.is_wanted.Tie as tie
+use Rattle.access.proofs.pending.is_wanted.Statement.{statement}
+use Rattle.access.proofs.pending.is_wanted.Tie as tie
 
 returns : tie.Need-returns
 unfolding isWanted

@@ -1,7 +1,7 @@
-use Rattle.tick.specs.Pending.{isMatched}
+use Rattle.unit.specs.Pending.{isMatched}
 use borrow.Author.Needs.{needs}
-use Rattle.tick.proofs.is_matched.Statement.{statement}
-use Rattle.tick.proofs.is_matched.Tie as tie
+use Rattle.access.proofs.pending.is_matched.Statement.{statement}
+use Rattle.access.proofs.pending.is_matched.Tie as tie
 
 enum-told : tie.Need-enum-told
 enum-told c = search needs

@@ -1,0 +1,508 @@
+//! The timer unit of document 01 as plain Rust, state by `&mut`.
+
+use crate::unit::{ChannelView, Phase, Snapshot, Unit};
+
+pub const CIER: u16 = 0xE0A;
+pub const CFSR0: u16 = 0xE0C;
+pub const HSQR0: u16 = 0xE14;
+pub const HSRR0: u16 = 0xE18;
+pub const CPR0: u16 = 0xE1C;
+pub const CISR: u16 = 0xE20;
+pub const PARAMETERS: u16 = 0xF00;
+
+/// Function number of the Stepper Motor.
+pub const STEPPER: u16 = 13;
+/// Most ticks of one advance.
+pub const MAX_TICKS: u32 = 4096;
+
+const INITIALISE: u16 = 2;
+const STEP: u16 = 3;
+
+// Parameter words of a channel.
+pub const CHANNEL_CONTROL: usize = 0;
+pub const PIN_CONTROL: usize = 1;
+pub const POSITION: usize = 2;
+pub const TARGET: usize = 3;
+pub const MOD_AND_RATE: usize = 4;
+pub const COUNT_AND_LAST: usize = 5;
+// Words of the channel after the primary.
+pub const STEP_CNTL0: usize = 2;
+pub const STEP_CNTL1: usize = 3;
+
+/// What an address stands for. Numbers of channels are the lowest of a word.
+enum Place {
+    Cier,
+    Cfsr(usize),
+    Hsqr(usize),
+    Hsrr(usize),
+    Cpr(usize),
+    Cisr,
+    Word(usize, usize),
+}
+
+/// Question 1.
+fn place(address: u16) -> Result<Place, u8> {
+    if address & 1 != 0 {
+        return Err(1);
+    }
+    let a = usize::from(address);
+    match a {
+        0xE0A => Ok(Place::Cier),
+        0xE0C..=0xE12 => Ok(Place::Cfsr(12 - (a - 0xE0C) * 2)),
+        0xE14..=0xE16 => Ok(Place::Hsqr((a - 0xE14) / 2)),
+        0xE18..=0xE1A => Ok(Place::Hsrr(8 - (a - 0xE18) * 4)),
+        0xE1C..=0xE1E => Ok(Place::Cpr(8 - (a - 0xE1C) * 4)),
+        0xE20 => Ok(Place::Cisr),
+        0xF00..=0xFFE => Ok(Place::Word((a >> 4) & 15, (a >> 1) & 7)),
+        _ => Err(1),
+    }
+}
+
+/// Only channels 14 and 15 have words 6 and 7.
+fn exists(c: usize, word: usize) -> bool {
+    word < 6 || c >= 14
+}
+
+/// Yes lets the questions go on, no ends them with the number.
+fn ask(answer: bool, number: u8) -> Result<(), u8> {
+    if answer {
+        Ok(())
+    } else {
+        Err(number)
+    }
+}
+
+#[derive(Clone, Copy, Default)]
+struct Channel {
+    function: u16,
+    request: u16,
+    priority: u16,
+    initialised: bool,
+    bound: bool,
+    level: bool,
+    right: bool,
+    phase: Phase,
+}
+
+/// The unit. The default is the state after reset.
+#[derive(Clone, Default)]
+pub struct Plain {
+    tcr1: u16,
+    pins: u16,
+    cier: u16,
+    cisr: u16,
+    hsqr: [u16; 2],
+    channels: [Channel; 16],
+    words: [[u16; 8]; 16],
+}
+
+// The three calls and the line.
+impl Plain {
+    pub fn read(&self, address: u16) -> Result<u16, u8> {
+        Ok(match place(address)? {
+            Place::Cier => self.cier,
+            Place::Cfsr(low) => self.gather(low, 4, |ch| ch.function),
+            Place::Hsqr(i) => self.hsqr[i],
+            Place::Hsrr(low) => self.gather(low, 8, |ch| ch.request),
+            Place::Cpr(low) => self.gather(low, 8, |ch| ch.priority),
+            Place::Cisr => self.cisr,
+            Place::Word(c, w) => self.words[c][w],
+        })
+    }
+
+    pub fn write(&mut self, address: u16, value: u16) -> Result<(), u8> {
+        match place(address)? {
+            Place::Cier => self.cier = value,
+            Place::Cfsr(low) => return self.write_functions(low, value),
+            Place::Hsqr(i) => self.hsqr[i] = value,
+            Place::Hsrr(low) => return self.write_requests(low, value),
+            Place::Cpr(low) => self.write_priorities(low, value),
+            Place::Cisr => self.cisr &= value,
+            Place::Word(c, w) => return self.write_word(c, w, value),
+        }
+        Ok(())
+    }
+
+    pub fn advance(&mut self, n: u32, pins: &mut [u16]) -> Result<(), u8> {
+        ask(n <= MAX_TICKS && n as usize <= pins.len(), 10)?;
+        for pin_word in &mut pins[..n as usize] {
+            self.tick();
+            *pin_word = self.pins;
+        }
+        Ok(())
+    }
+
+    pub fn interrupt_line(&self) -> bool {
+        self.cier & self.cisr != 0
+    }
+}
+
+// What the registers hold, and how they are written.
+impl Plain {
+    /// A register word out of the same field of `count` channels.
+    fn gather(&self, low: usize, count: usize, field: fn(&Channel) -> u16) -> u16 {
+        let width = 16 / count;
+        let mut word = 0;
+        for i in 0..count {
+            word |= field(&self.channels[low + i]) << (i * width);
+        }
+        word
+    }
+
+    fn write_functions(&mut self, low: usize, value: u16) -> Result<(), u8> {
+        for i in 0..4 {
+            let differs = self.channels[low + i].function != (value >> (4 * i)) & 15;
+            ask(!differs || self.is_free(low + i), 2)?;
+        }
+        for i in 0..4 {
+            self.channels[low + i].function = (value >> (4 * i)) & 15;
+        }
+        Ok(())
+    }
+
+    fn write_priorities(&mut self, low: usize, value: u16) {
+        for i in 0..8 {
+            self.channels[low + i].priority = (value >> (2 * i)) & 3;
+        }
+    }
+
+    /// All requests of the word are taken, or none.
+    fn write_requests(&mut self, low: usize, value: u16) -> Result<(), u8> {
+        let before = self.channels;
+        for i in 0..8 {
+            let taken = match (value >> (2 * i)) & 3 {
+                INITIALISE => self.request_initialise(low + i),
+                STEP => self.request_step(low + i),
+                _ => Ok(()),
+            };
+            if taken.is_err() {
+                self.channels = before;
+                return taken;
+            }
+        }
+        Ok(())
+    }
+
+    fn write_word(&mut self, c: usize, w: usize, value: u16) -> Result<(), u8> {
+        if !exists(c, w) {
+            return Ok(());
+        }
+        if w == TARGET && self.is_moving(c) {
+            ask(value <= 0xFFFF - self.rate_count(c), 9)?;
+        } else {
+            ask(self.is_free(c), 2)?;
+        }
+        self.words[c][w] = value;
+        if w == CHANNEL_CONTROL {
+            self.channels[c].initialised = false;
+        }
+        Ok(())
+    }
+}
+
+// Requests at the gate.
+impl Plain {
+    /// Neither in a bound group nor with a request of its own.
+    fn is_free(&self, c: usize) -> bool {
+        !self.channels[c].bound && self.channels[c].request == 0
+    }
+
+    /// A bound primary: its step request is taken and it has not arrived.
+    fn is_moving(&self, c: usize) -> bool {
+        self.channels[c].phase != Phase::Resting
+    }
+
+    fn request_initialise(&mut self, c: usize) -> Result<(), u8> {
+        ask(self.is_free(c), 2)?;
+        ask(self.channels[c].function == STEPPER, 3)?;
+        let control = self.words[c][CHANNEL_CONTROL];
+        let high = self.words[c][PIN_CONTROL] & 0x8000 != 0;
+        let pin_bits = if high { 1 } else { 2 };
+        ask((control >> 5) & 15 == 4 && control & 3 == pin_bits, 4)?;
+        self.channels[c].request = INITIALISE;
+        Ok(())
+    }
+
+    fn request_step(&mut self, c: usize) -> Result<(), u8> {
+        if self.is_moving(c) && self.channels[c].request == 0 {
+            ask(self.channels[c].function == STEPPER, 3)?;
+            self.channels[c].request = STEP;
+            return Ok(());
+        }
+        ask(self.is_free(c), 2)?;
+        ask(self.channels[c].function == STEPPER, 3)?;
+        self.ask_group(c)?;
+        self.ask_ramp_and_target(c)?;
+        self.channels[c].request = STEP;
+        self.channels[c].phase = Phase::Requested;
+        for g in c..=self.last(c) {
+            self.channels[g].bound = true;
+        }
+        Ok(())
+    }
+
+    /// Questions 5 to 7.
+    fn ask_group(&self, c: usize) -> Result<(), u8> {
+        let tidy = self.words[c][COUNT_AND_LAST] & 0xF0F0 == 0;
+        let n = self.rate_count(c);
+        let last = self.last(c);
+        ask(
+            tidy && (1..=14).contains(&n) && last > c && last <= c + 7,
+            5,
+        )?;
+        for g in c..=last {
+            let ready = self.channels[g].function == STEPPER && self.channels[g].initialised;
+            ask(ready && self.is_free(g), 6)?;
+        }
+        let tidy = self.words[c][MOD_AND_RATE] & 0xF0F0 == 0;
+        ask(tidy && self.next_rate(c) == 1, 7)?;
+        for g in c..=last {
+            let turned = self.words[g][PIN_CONTROL].rotate_right(self.mod_count(c).into());
+            ask(self.words[g][CHANNEL_CONTROL] == turned, 7)?;
+        }
+        Ok(())
+    }
+
+    /// Questions 8 and 9.
+    fn ask_ramp_and_target(&self, c: usize) -> Result<(), u8> {
+        let n = self.rate_count(c);
+        ask(self.period(c, n) >= 1 && self.period(c, 1) <= 0x7FFF, 8)?;
+        ask(self.words[c][TARGET] <= 0xFFFF - n, 9)
+    }
+}
+
+// Fields of a primary's words.
+impl Plain {
+    fn mod_count(&self, c: usize) -> u16 {
+        (self.words[c][MOD_AND_RATE] >> 8) & 15
+    }
+
+    fn next_rate(&self, c: usize) -> u16 {
+        self.words[c][MOD_AND_RATE] & 15
+    }
+
+    fn rate_count(&self, c: usize) -> u16 {
+        (self.words[c][COUNT_AND_LAST] >> 8) & 15
+    }
+
+    fn last(&self, c: usize) -> usize {
+        usize::from(self.words[c][COUNT_AND_LAST] & 15)
+    }
+
+    /// Ticks of a step at this rate; wide, so that it can lie below zero.
+    fn period(&self, c: usize, rate: u16) -> i32 {
+        let ramp = &self.words[c + 1];
+        i32::from(ramp[STEP_CNTL1]) - i32::from(ramp[STEP_CNTL0]) * (1 + i32::from(rate))
+    }
+}
+
+// One tick.
+impl Plain {
+    fn tick(&mut self) {
+        self.tcr1 = self.tcr1.wrapping_add(1);
+        for c in 0..16 {
+            if let Phase::Armed(time) = self.channels[c].phase {
+                if self.is_due(time) {
+                    self.act(c);
+                }
+            }
+        }
+        for c in 0..16 {
+            let channel = &self.channels[c];
+            if channel.priority == 0 {
+                continue;
+            }
+            let phase = channel.phase;
+            if channel.request != 0 {
+                self.serve_request(c);
+            }
+            if let Phase::Matched(captured) = phase {
+                self.turn(c, self.channels[c].right, captured);
+            }
+        }
+    }
+
+    fn is_due(&self, time: u16) -> bool {
+        self.tcr1.wrapping_sub(time) < 0x8000
+    }
+
+    /// The match happens: prepared levels to the pins, time captured.
+    fn act(&mut self, c: usize) {
+        for g in c..=self.last(c) {
+            self.set_pin(g, self.channels[g].level);
+        }
+        self.channels[c].phase = Phase::Matched(self.tcr1);
+    }
+
+    fn set_pin(&mut self, c: usize, high: bool) {
+        if high {
+            self.pins |= 1 << c;
+        } else {
+            self.pins &= !(1 << c);
+        }
+    }
+
+    fn serve_request(&mut self, c: usize) {
+        let request = self.channels[c].request;
+        self.channels[c].request = 0;
+        if request == INITIALISE {
+            self.initialise(c);
+        } else if self.channels[c].phase == Phase::Requested {
+            self.test(c, self.tcr1);
+        }
+    }
+
+    fn initialise(&mut self, c: usize) {
+        self.set_pin(c, self.words[c][CHANNEL_CONTROL] & 3 == 1);
+        self.words[c][CHANNEL_CONTROL] = self.words[c][PIN_CONTROL];
+        self.channels[c].initialised = true;
+        self.cisr |= 1 << c;
+    }
+}
+
+// Stepping.
+impl Plain {
+    fn test(&mut self, c: usize, reference: u16) {
+        let position = self.words[c][POSITION];
+        let target = self.words[c][TARGET];
+        if target == position {
+            self.arrive(c);
+        } else {
+            self.turn(c, target > position, reference);
+        }
+    }
+
+    fn arrive(&mut self, c: usize) {
+        self.channels[c].phase = Phase::Resting;
+        for g in c..=self.last(c) {
+            self.channels[g].bound = false;
+        }
+        self.cisr |= 1 << c;
+    }
+
+    /// Goes on in this direction, or back to the test if slow and not ahead.
+    fn turn(&mut self, c: usize, right: bool, reference: u16) {
+        let to_the_right = i32::from(self.words[c][TARGET]) - i32::from(self.words[c][POSITION]);
+        let ahead = if right { to_the_right } else { -to_the_right };
+        let n = self.rate_count(c);
+        let rate = self.next_rate(c);
+        if ahead >= i32::from(n) {
+            let faster = if rate < n { rate + 1 } else { rate };
+            self.step(c, right, faster, reference);
+        } else if rate > 1 {
+            self.step(c, right, rate - 1, reference);
+        } else if ahead > 0 {
+            self.step(c, right, 1, reference);
+        } else {
+            self.test(c, reference);
+        }
+    }
+
+    fn step(&mut self, c: usize, right: bool, new_rate: u16, reference: u16) {
+        let time = reference.wrapping_add(self.period(c, self.next_rate(c)) as u16);
+        let by = if right { 1 } else { 0xFFFF };
+        self.words[c][POSITION] = self.words[c][POSITION].wrapping_add(by);
+        let count = self.mod_count(c).wrapping_add(by) & 15;
+        self.words[c][MOD_AND_RATE] = count << 8 | new_rate;
+        self.channels[c].right = right;
+        for g in c..=self.last(c) {
+            self.rotate(g, right, count == 0);
+        }
+        self.channels[c].phase = Phase::Armed(time);
+        if self.is_due(time) {
+            self.act(c);
+        }
+    }
+
+    /// One place on in the pattern of a channel, afresh from PIN_CONTROL
+    /// after a whole turn of it.
+    fn rotate(&mut self, g: usize, right: bool, whole: bool) {
+        let control = self.words[g][CHANNEL_CONTROL];
+        let rotated = if right {
+            control.rotate_right(1)
+        } else {
+            control.rotate_left(1)
+        };
+        self.channels[g].level = rotated & 0x8000 != 0;
+        self.words[g][CHANNEL_CONTROL] = if whole {
+            self.words[g][PIN_CONTROL]
+        } else {
+            rotated
+        };
+    }
+}
+
+// What a comparison or a report looks at.
+impl Plain {
+    pub fn tcr1(&self) -> u16 {
+        self.tcr1
+    }
+
+    pub fn pins(&self) -> u16 {
+        self.pins
+    }
+
+    pub fn word(&self, c: usize, w: usize) -> u16 {
+        self.words[c][w]
+    }
+
+    pub fn phase(&self, c: usize) -> Phase {
+        self.channels[c].phase
+    }
+
+    pub fn is_bound(&self, c: usize) -> bool {
+        self.channels[c].bound
+    }
+
+    pub fn view(&self, c: usize) -> ChannelView {
+        let channel = &self.channels[c];
+        ChannelView {
+            initialised: channel.initialised,
+            level: channel.level,
+            right: channel.right,
+            phase: channel.phase,
+        }
+    }
+}
+
+impl Unit for Plain {
+    fn reset(&mut self) {
+        *self = Plain::default();
+    }
+
+    fn read(&self, address: u16) -> Result<u16, u8> {
+        Plain::read(self, address)
+    }
+
+    fn write(&mut self, address: u16, value: u16) -> Result<(), u8> {
+        Plain::write(self, address, value)
+    }
+
+    fn advance(&mut self, n: u32, pins: &mut [u16]) -> Result<(), u8> {
+        Plain::advance(self, n, pins)
+    }
+
+    fn interrupt_line(&self) -> bool {
+        Plain::interrupt_line(self)
+    }
+
+    fn snapshot(&self) -> Snapshot {
+        let mut registers = [0; 12];
+        for (i, register) in registers.iter_mut().enumerate() {
+            *register = Plain::read(self, CIER + 2 * i as u16).unwrap_or(0);
+        }
+        let mut words = [0; 128];
+        let mut channels = [ChannelView::default(); 16];
+        for c in 0..16 {
+            words[8 * c..8 * c + 8].copy_from_slice(&self.words[c]);
+            channels[c] = self.view(c);
+        }
+        Snapshot {
+            registers,
+            words,
+            tcr1: self.tcr1,
+            pins: self.pins,
+            channels,
+        }
+    }
+}

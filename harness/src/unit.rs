@@ -1,0 +1,73 @@
+//! What every implementation under test offers, and what a comparison sees.
+
+/// Where the group stands whose primary a channel is.
+#[derive(Clone, Copy, Debug, Default, PartialEq, Eq)]
+pub enum Phase {
+    /// No step request taken, or the motor has arrived.
+    #[default]
+    Resting,
+    /// Step request taken, not served yet.
+    Requested,
+    /// Match set for this time.
+    Armed(u16),
+    /// Match has happened; the captured time.
+    Matched(u16),
+}
+
+/// The part of a channel that no register shows.
+#[derive(Clone, Copy, Debug, Default, PartialEq, Eq)]
+pub struct ChannelView {
+    pub initialised: bool,
+    /// Prepared pin level.
+    pub level: bool,
+    /// Latest step of the group went right.
+    pub right: bool,
+    pub phase: Phase,
+}
+
+/// The whole state in one common shape.
+#[derive(Clone, Debug, PartialEq, Eq)]
+pub struct Snapshot {
+    /// The words at $E0A to $E20, in order.
+    pub registers: [u16; 12],
+    /// The words at $F00 to $FFE, in order. Missing ones are 0.
+    pub words: [u16; 128],
+    pub tcr1: u16,
+    pub pins: u16,
+    pub channels: [ChannelView; 16],
+}
+
+impl Snapshot {
+    /// The same state with levels and directions blanked where nothing can
+    /// come of them: only a group with a set match uses its levels, only a
+    /// group with a set or happened match its direction.
+    pub fn blanked(mut self) -> Snapshot {
+        let mut used = 0u16;
+        for (c, channel) in self.channels.iter_mut().enumerate() {
+            match channel.phase {
+                Phase::Armed(_) => {
+                    for g in c..=usize::from(self.words[8 * c + 5] & 15) {
+                        used |= 1 << g;
+                    }
+                }
+                Phase::Matched(_) => {}
+                _ => channel.right = false,
+            }
+        }
+        for (c, channel) in self.channels.iter_mut().enumerate() {
+            channel.level &= used & 1 << c != 0;
+        }
+        self
+    }
+}
+
+/// One implementation of the unit. It starts in the reset state.
+pub trait Unit {
+    /// Goes back to the reset state.
+    fn reset(&mut self);
+    fn read(&self, address: u16) -> Result<u16, u8>;
+    fn write(&mut self, address: u16, value: u16) -> Result<(), u8>;
+    fn advance(&mut self, n: u32, pins: &mut [u16]) -> Result<(), u8>;
+    fn interrupt_line(&self) -> bool;
+    fn snapshot(&self) -> Snapshot;
+}

@@ -1,0 +1,258 @@
+//! Counts what happens while call lists run on the plain unit.
+
+use crate::calls::{perform, Answer, Call};
+use crate::plain::{Plain, COUNT_AND_LAST, HSRR0, MOD_AND_RATE, POSITION, TARGET};
+use crate::unit::Phase;
+use std::fmt;
+
+#[derive(Clone, Default, Debug)]
+pub struct Counts {
+    pub lists: u64,
+    pub calls: u64,
+    pub ticks: u64,
+    /// By number of the question.
+    pub refused: [u64; 11],
+    pub words_read: u64,
+    pub wraps: u64,
+    pub initialised: u64,
+    /// By number of channels of the group.
+    pub starts: [u64; 9],
+    pub steps_right: u64,
+    pub steps_left: u64,
+    pub turns: u64,
+    /// Steps that took the pattern afresh, MOD_CNT being 0.
+    pub fresh_patterns: u64,
+    pub arrivals: u64,
+    /// At position 0 and at the highest target there is.
+    pub arrivals_low: u64,
+    pub arrivals_high: u64,
+    /// Targets and requests taken for a motor on its way.
+    pub retargets: u64,
+    pub second_requests: u64,
+    /// HSRR words with two or more requests.
+    pub words_taken: u64,
+    pub words_refused: u64,
+    /// Services in a later tick than the match could have had.
+    pub late_services: u64,
+    /// Matches already due when set up.
+    pub due_at_set_up: u64,
+    /// Matches that lie in the past when set up and are still not due.
+    pub past_and_not_due: u64,
+    /// Ticks with more than one motor on its way.
+    pub shared_ticks: u64,
+    pub line_up: u64,
+}
+
+impl Counts {
+    /// The counts that a useful set of lists has above zero, by name.
+    pub fn named(&self) -> Vec<(String, u64)> {
+        let mut all = Vec::new();
+        for number in 1..=10 {
+            all.push((
+                format!("refused by question {number}"),
+                self.refused[number],
+            ));
+        }
+        for size in 2..=8 {
+            all.push((format!("starts of {size} channels"), self.starts[size]));
+        }
+        let single = [
+            ("words read", self.words_read),
+            ("TCR1 wraps", self.wraps),
+            ("channels initialised", self.initialised),
+            ("steps right", self.steps_right),
+            ("steps left", self.steps_left),
+            ("turns of direction", self.turns),
+            ("fresh patterns", self.fresh_patterns),
+            ("arrivals", self.arrivals),
+            ("arrivals at 0", self.arrivals_low),
+            ("arrivals at the highest target", self.arrivals_high),
+            ("targets on the way", self.retargets),
+            ("requests on the way", self.second_requests),
+            ("words with several requests taken", self.words_taken),
+            ("words with several requests refused", self.words_refused),
+            ("late services", self.late_services),
+            ("matches due at set-up", self.due_at_set_up),
+            ("matches past and not due", self.past_and_not_due),
+            ("ticks with several motors", self.shared_ticks),
+            ("calls that left the line up", self.line_up),
+        ];
+        all.extend(single.map(|(name, count)| (name.to_string(), count)));
+        all
+    }
+}
+
+impl fmt::Display for Counts {
+    fn fmt(&self, f: &mut fmt::Formatter) -> fmt::Result {
+        writeln!(f, "{:>12} lists", self.lists)?;
+        writeln!(f, "{:>12} calls", self.calls)?;
+        writeln!(f, "{:>12} ticks", self.ticks)?;
+        for (name, count) in self.named() {
+            writeln!(f, "{count:>12} {name}")?;
+        }
+        Ok(())
+    }
+}
+
+fn has_several(call: Call) -> bool {
+    match call {
+        Call::Write(address, value) if address == HSRR0 || address == HSRR0 + 2 => {
+            // The upper bit of a field makes it a request.
+            (value & 0xAAAA).count_ones() > 1
+        }
+        _ => false,
+    }
+}
+
+/// A plain unit with a memory of when each group's match happened.
+#[derive(Default)]
+pub struct Watch {
+    unit: Plain,
+    ticks: u64,
+    matched: [u64; 16],
+    served_next: [bool; 16],
+    list: Vec<u16>,
+}
+
+/// What one tick can change of a group.
+#[derive(Clone, Copy, Default)]
+struct Look {
+    phase: Phase,
+    position: u16,
+    right: bool,
+    initialised: bool,
+}
+
+impl Watch {
+    /// Runs one list from reset and adds to the counts.
+    pub fn run(calls: &[Call], counts: &mut Counts) {
+        let mut watch = Watch::default();
+        counts.lists += 1;
+        for &call in calls {
+            watch.call(call, counts);
+        }
+    }
+
+    pub fn call(&mut self, call: Call, counts: &mut Counts) {
+        counts.calls += 1;
+        let mut list = std::mem::take(&mut self.list);
+        let before = self.unit.clone();
+        match call {
+            // A taken advance is made tick by tick, to look in between.
+            Call::Advance(n, length) if n <= 4096 && n as usize <= length => {
+                for _ in 0..n {
+                    self.tick(counts);
+                }
+            }
+            _ => match perform(&mut self.unit, call, &mut list) {
+                Answer::Refused(number) => {
+                    counts.refused[usize::from(number)] += 1;
+                    counts.words_refused += u64::from(has_several(call));
+                }
+                Answer::Word(_) => counts.words_read += 1,
+                Answer::Done => {
+                    counts.words_taken += u64::from(has_several(call));
+                    self.taken(call, &before, counts);
+                }
+            },
+        }
+        self.list = list;
+        counts.line_up += u64::from(self.unit.interrupt_line());
+    }
+
+    fn taken(&self, call: Call, before: &Plain, counts: &mut Counts) {
+        let Call::Write(address, value) = call else {
+            return;
+        };
+        for c in 0..16 {
+            let was_moving = before.phase(c) != Phase::Resting;
+            let moving = self.unit.phase(c) != Phase::Resting;
+            if moving && !was_moving {
+                let last = usize::from(self.unit.word(c, COUNT_AND_LAST) & 15);
+                counts.starts[last - c + 1] += 1;
+            }
+            if was_moving && address == 0xF00 + 16 * c as u16 + 2 * TARGET as u16 {
+                counts.retargets += 1;
+            }
+            let asked = address == HSRR0 + 2 * (1 - c as u16 / 8);
+            if was_moving && asked && (value >> (2 * (c % 8))) & 3 == 3 {
+                counts.second_requests += 1;
+            }
+        }
+    }
+
+    fn look(&self, c: usize) -> Look {
+        let view = self.unit.view(c);
+        Look {
+            phase: view.phase,
+            position: self.unit.word(c, POSITION),
+            right: view.right,
+            initialised: view.initialised,
+        }
+    }
+
+    fn tick(&mut self, counts: &mut Counts) {
+        let mut before = [Look::default(); 16];
+        let mut moving = 0;
+        for (c, look) in before.iter_mut().enumerate() {
+            *look = self.look(c);
+            moving += u64::from(look.phase != Phase::Resting);
+        }
+        let taken = self.unit.advance(1, &mut [0]);
+        assert!(taken.is_ok(), "an advance by one is taken");
+        self.ticks += 1;
+        counts.ticks += 1;
+        counts.wraps += u64::from(self.unit.tcr1() == 0);
+        counts.shared_ticks += u64::from(moving > 1);
+        for (c, look) in before.iter().enumerate() {
+            let after = self.look(c);
+            counts.initialised += u64::from(after.initialised && !look.initialised);
+            if look.phase != Phase::Resting {
+                self.compare(c, *look, after, counts);
+            }
+        }
+    }
+
+    fn compare(&mut self, c: usize, before: Look, after: Look, counts: &mut Counts) {
+        let arrived = after.phase == Phase::Resting;
+        let stepped = after.position != before.position;
+        let first = before.phase == Phase::Requested;
+        if let Phase::Matched(_) = before.phase {
+            let late = self.ticks - self.matched[c] > 1 || !self.served_next[c];
+            counts.late_services += u64::from(late && (stepped || arrived));
+        } else if let Phase::Armed(_) = before.phase {
+            self.matched[c] = self.ticks;
+            self.served_next[c] = false;
+        }
+        if arrived {
+            let n = (self.unit.word(c, COUNT_AND_LAST) >> 8) & 15;
+            counts.arrivals += 1;
+            counts.arrivals_low += u64::from(after.position == 0);
+            counts.arrivals_high += u64::from(after.position == 0xFFFF - n);
+        }
+        if !stepped {
+            return;
+        }
+        counts.fresh_patterns += u64::from(self.unit.word(c, MOD_AND_RATE) < 0x100);
+        counts.steps_right += u64::from(after.right);
+        counts.steps_left += u64::from(!after.right);
+        counts.turns += u64::from(!first && after.right != before.right);
+        self.new_match(c, first, after, counts);
+    }
+
+    fn new_match(&mut self, c: usize, first: bool, after: Look, counts: &mut Counts) {
+        match after.phase {
+            Phase::Matched(_) => {
+                counts.due_at_set_up += 1;
+                self.matched[c] = self.ticks;
+                self.served_next[c] = true;
+            }
+            Phase::Armed(_) if !first => {
+                // No period is longer than $7FFF.
+                let waited = self.ticks - self.matched[c];
+                counts.past_and_not_due += u64::from(waited >= 0x8000);
+            }
+            _ => {}
+        }
+    }
+}
