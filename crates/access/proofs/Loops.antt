@@ -1,37 +1,25 @@
--- Loops over channels: one channel more, and what bounds a group's numbers.
+-- Loops over channels: one channel more, and where a group ends.
 use Prim.Native.Nat.{ℕ, _+_, _≤_, _<_}
 use mathlib.Core.Bool.{Bool, true, false, _&&_, _||_}
-use mathlib.Core.Path.{_≡_, refl}
+use mathlib.Core.Path.{_≡_, refl, sym}
 use native.Mathlib.Numerals.{add-one}
 use native.Mathlib.Omega.{arith}
 use lib.Dec.{leb}
-use Rattle.words.proofs.FieldLaws.{field-lt}
 use Rattle.unit.specs.declared.State.{State}
-use Rattle.unit.specs.TheUnit.{each, any, word, modCount, last, size, stepping, reaches}
-use Rattle.unit.proofs.Tests.{and-no}
+use Rattle.unit.specs.TheUnit.{each, any, last, size, stepping, reaches}
+use Rattle.unit.proofs.Tests.{and-no, or-right, any-yes}
 use Rattle.unit.proofs.Alone.{last-small}
-
-or-true : (x y : Bool) → (x || (y || true)) ≡ true
-or-true true y = refl
-or-true false true = refl
-or-true false false = refl
-
-or-false : (x y : Bool) → (x || (y || false)) ≡ (x || y)
-or-false true y = refl
-or-false false true = refl
-or-false false false = refl
 
 pub or-no : (x : Bool) → (x || false) ≡ x
 or-no true = refl
 or-no false = refl
 
-pub any-yes : (x : Bool) (n a k : ℕ) (f : ℕ → Bool) → k ≡ a + n → f k ≡ true → true ≡ (x || any (n + 1) a f)
-unfolding any
-any-yes x n a k f e h = rw (add-one, ← e, h, or-true)
+pub next-yes : (x : Bool) (n a k : ℕ) (f : ℕ → Bool) → k ≡ a + n → f k ≡ true → true ≡ (x || any (n + 1) a f)
+next-yes x n a k f e h = sym (or-right x (any (n + 1) a f) (any-yes f k (n + 1) a (omega (arith, e)) (omega (arith, e)) h))
 
-pub any-not : (x : Bool) (n a k : ℕ) (f : ℕ → Bool) → k ≡ a + n → f k ≡ false → (x || any n a f) ≡ (x || any (n + 1) a f)
+pub next-not : (x : Bool) (n a k : ℕ) (f : ℕ → Bool) → k ≡ a + n → f k ≡ false → (x || any n a f) ≡ (x || any (n + 1) a f)
 unfolding any
-any-not x n a k f e h = rw (add-one, ← e, h, or-false)
+next-not x n a k f e h = rw (add-one, ← e, h, or-no)
 
 pub each-next : (n a k : ℕ) (f : ℕ → State → State) (s : State) → k ≡ a + n → each (n + 1) a f s ≡ f k (each n a f s)
 unfolding each
@@ -45,10 +33,6 @@ in-group s c k h = omega (arith, h, last-small s c)
 pub group-end : (s : State) (c : ℕ) → c < 16 → c + size s c ≤ 16
 unfolding size
 group-end s c h = omega (arith, h, last-small s c)
-
-pub count-small : (s : State) (c : ℕ) → modCount s c < 16
-unfolding modCount
-count-small s c = field-lt 4 (word s c 4) 8
 
 -- whether the group of p reaches the channel c, by what was asked of it
 pub reaches-yes : (s : State) (c p : ℕ) → stepping s p ≡ true → (leb p c && leb c (last s p)) ≡ true → reaches s c p ≡ true

@@ -35,7 +35,7 @@ pub fn motor_of(s: State, c: u16) -> Motor
 }
 
 // A phase in which the group is bound.
-pub fn bound(p: Phase) -> bool
+fn bound(p: Phase) -> bool
     ensures { λ r. ⌜ r ≡ bound p ⌝ }
 {
     match p {
@@ -66,7 +66,7 @@ fn spans(s: State, c: u16, p: u16) -> bool
 }
 
 // Some bound group has the channel c.
-pub fn is_bound(s: State, c: u16) -> bool
+fn is_bound(s: State, c: u16) -> bool
     ensures { λ r. ⌜ r ≡ isBound s c ⌝ }
 {
     let mut found = stepping(s, c);

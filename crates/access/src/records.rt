@@ -16,7 +16,7 @@ pub fn channel(s: State, c: u16) -> Channel
     }
 }
 
-pub fn with_channel(mut s: State, c: u16, x: Channel) -> State
+fn with_channel(mut s: State, c: u16, x: Channel) -> State
     ensures { λ r. ⌜ r ≡ withChannel s c x ⌝ }
 {
     if c < 16 {

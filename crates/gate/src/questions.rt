@@ -129,7 +129,7 @@ pub fn pattern_good(s: State, c: u16) -> bool
 }
 
 // Question 8.
-pub fn ramp_good(cntl0: u16, cntl1: u16, n: u16) -> bool
+fn ramp_good(cntl0: u16, cntl1: u16, n: u16) -> bool
     ensures { λ r. ⌜ r ≡ rampGood cntl0 cntl1 n ⌝ }
 {
     if step::period(cntl0, cntl1, n) < 1 {

@@ -21,7 +21,7 @@ use Rattle.script.specs.Parsing.{commandOf}
 use Rattle.script.specs.Printing.{hexWord, digits, decimal, numberLine, wordLine, pinLine}
 use Rattle.script.specs.Replying.{room, refusal, answered, readReply, wordBefore, pinLines, replyBy, replyTo}
 use Rattle.script.specs.Claims.{NoneLonger}
-use Rattle.script.proofs.ParsingLaws.{and-left}
+use Rattle.unit.proofs.Tests.{and-left}
 use Rattle.script.proofs.ReplyingLaws.{good}
 
 -- a number below 10 to the power k has at most k digits, and no number has more than it may

@@ -1,22 +1,15 @@
 -- Numbers read from digits.
 use Prim.Native.Nat.{ℕ, zero, suc, _+_, _*_, _^_, _≤_, _<_}
-use mathlib.Core.Path.{_≡_, refl, sym, _∙_}
+use mathlib.Core.Path.{_≡_}
 use mathlib.Core.Logic.{⊎-elim}
-use mathlib.Core.Bool.{Bool, true, false, not, _&&_}
+use mathlib.Core.Bool.{true}
 use mathlib.Core.List.{List}
 use native.Mathlib.Nat.{mul-le-mul-right, suc-mul, pow-suc, pow-le-pow-right, eq-or-lt-of-le}
 use native.Mathlib.Omega.{arith}
 use lib.ListN.{getD}
-use borrow.Author.Tests.{ltb-true, not-true, not-false}
+use borrow.Author.Tests.{ltb-true}
+use Rattle.unit.proofs.Tests.{and-left, and-right}
 use Rattle.script.specs.Parsing.{digit, areDigits}
-
-pub and-left : (a b : Bool) → a && b ≡ true → a ≡ true
-and-left true b e = refl
-and-left false b e = e
-
-and-right : (a b : Bool) → a && b ≡ true → b ≡ true
-and-right true b e = e
-and-right false b e = absurd (let z : _≡_ {A = ℕ} 0 1 = cc in omega arith)
 
 module _ (base : ℕ) (line : List ℕ) (at : ℕ) where
   -- each of the digits is below the base
@@ -41,10 +34,3 @@ module _ (base : ℕ) (line : List ℕ) (at : ℕ) where
       let d = digit-below n k e h in
       let m : base ^ suc k ≤ base ^ n = pow-le-pow-right (omega arith) h in
       omega arith
-
--- what `if !r` says where r is the answer to q
-pub said-no : (q r : Bool) → r ≡ q → not r ≡ true → q ≡ false
-said-no q r e t = sym e ∙ not-true r t
-
-pub said-yes : (q r : Bool) → r ≡ q → not r ≡ false → q ≡ true
-said-yes q r e t = sym e ∙ not-false r t

@@ -14,6 +14,7 @@ use Rattle.unit.specs.declared.Answer.the-variants.{Taken, Refused}
 use Rattle.unit.specs.declared.Answered.{Answered}
 use Rattle.unit.specs.Gate.{advanceGood}
 use Rattle.unit.specs.Calls.{readOf, writeOf, advanceOf, pinWords, lentAfter}
+use Rattle.tpu.proofs.Lent.{pin-words-long}
 use Rattle.script.specs.declared.Command.{Command}
 use Rattle.script.specs.declared.Command.the-variants.{Write, Read, Ticks}
 use Rattle.script.specs.declared.Replied.{Replied}
@@ -50,11 +51,6 @@ module _ (ticks pins : ℕ) (words more : List ℕ) where
   lines-front zero h = refl
   lines-front (suc i) h = rw (lines-front i (omega arith), before-front i (omega arith), List·getD-append words more 0 i h)
 
-length-pins : (n : ℕ) (s : State) → length (pinWords n s) ≡ n
-unfolding pinWords
-length-pins zero s = refl
-length-pins (suc n) s = rw (length-append, length-pins n s) (add-one n)
-
 -- ---- what a taken advance leaves in the lent list
 
 pub good : (s : State) (n : ℕ) (lent : List ℕ) (x : Answered) → x ≡ advanceOf s n lent → x .answer ≡ Taken → advanceGood n lent ≡ true
@@ -69,10 +65,10 @@ module _ (s : State) (n : ℕ) (lent left : List ℕ) (x : Answered) (e : x ≡ 
   leaves = l ∙ rw (good s n lent x e t)
 
   pub enough : n ≤ length left
-  enough = rw (leaves, length-append, length-pins n s) (omega arith)
+  enough = rw (leaves, length-append, pin-words-long n s) (omega arith)
 
   pub leaves-lines : (ticks pins : ℕ) → pinLines n ticks pins left ≡ pinLines n ticks pins (pinWords n s)
-  leaves-lines ticks pins = rw leaves (lines-front ticks pins (pinWords n s) (drop n lent) n (rw (length-pins n s) (omega arith)))
+  leaves-lines ticks pins = rw leaves (lines-front ticks pins (pinWords n s) (drop n lent) n (rw (pin-words-long n s) (omega arith)))
 
 -- ---- each answer
 

@@ -1,5 +1,4 @@
 // Each command carried out, and its reply put at the front of `out`.
-ghost use mathlib.Core.Path.{_≡_};
 ghost use Prim.Native.Nat.{_≤_};
 ghost use lib.ListN.{length};
 ghost use Rattle.script.specs.declared.Command.the-variants.{Write, Read, Ticks, Other};

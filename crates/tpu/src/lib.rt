@@ -79,5 +79,5 @@ pub fn advance(s: State, n: u32, lent: &mut [u16]) -> Answered
 pub fn interrupt_line(s: State) -> bool
     ensures { λ r. ⌜ r ≡ interruptLine s ⌝ }
 {
-    registers::interrupt_line(s)
+    registers::reg(s, 0) & registers::reg(s, 11) != 0
 }

@@ -47,7 +47,7 @@ fn quiet_in(priority: u16, request: u16, p: Phase, now: u16) -> u16
     waits(p, now)
 }
 
-fn lesser(a: u16, b: u16) -> u16
+pub fn lesser(a: u16, b: u16) -> u16
     ensures { λ r. ⌜ r ≡ min a b ⌝ }
 {
     if a <= b { a } else { b }

@@ -12,7 +12,7 @@ use words::clock;
 
 // Some ticks at once, which all end with the same pin word.
 struct Leap {
-    ticks: usize,
+    ticks: u16,
     state: State,
 }
 
@@ -24,11 +24,11 @@ fn at_time(mut s: State, t: u16) -> State
 }
 
 // The quiet ticks, or one tick in which something happens; at most as many as there is room for.
-fn onward(s: State, room: usize) -> Leap
+fn onward(s: State, room: u16) -> Leap
     requires { ⌜ 0 < room ⌝ }
     ensures { λ r. ⌜ (0 < r .ticks) × (r .ticks ≤ room) × (r .state ≡ afterTicks (r .ticks) s) × (pinWords (r .ticks) s ≡ replicate (r .ticks) (r .state .pins)) ⌝ }
 {
-    let q = fitting(quiet::quiet_ticks(s), room);
+    let q = quiet::lesser(quiet::quiet_ticks(s), room);
     if q == 0 {
         let next = tick::tick(s);
         return Leap {
@@ -38,16 +38,9 @@ fn onward(s: State, room: usize) -> Leap
     }
     let next = at_time(s, clock::later(s.tcr1, q));
     Leap {
-        ticks: q as usize,
+        ticks: q,
         state: next,
     }
-}
-
-// No more than the room.
-fn fitting(q: u16, room: usize) -> u16
-    ensures { λ r. ⌜ (r ≤ q) × (r ≤ room) ⌝ }
-{
-    if room < q as usize { room as u16 } else { q }
 }
 
 // The pin word goes to the first places of the rest of the list.
@@ -64,16 +57,17 @@ fn fill(rest: &mut [u16], k: usize, w: u16)
 
 // The rest of the list is lent on from the present tick.
 pub fn run(mut s: State, n: usize, lent: &mut [u16]) -> State
-    requires { ⌜ n ≤ length (now lent) ⌝ }
+    requires { ⌜ (n ≤ 4096) × (n ≤ length (now lent)) ⌝ }
     ensures { λ r. ⌜ (r ≡ afterTicks n s) × (now (lent .exit) ≡ pinWords n s ++ drop n (now (lent .entry))) ⌝ }
 {
     let mut i: usize = 0;
     while i < n {
-        let l = onward(s, n - i);
+        let l = onward(s, (n - i) as u16);
         let next = l.state;
         s = next;
-        fill(&mut lent[i..], l.ticks, s.pins);
-        i = i + l.ticks;
+        let k = l.ticks as usize;
+        fill(&mut lent[i..], k, s.pins);
+        i = i + k;
     }
     s
 }

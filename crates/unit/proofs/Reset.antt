@@ -95,7 +95,7 @@ record Rows : Type 0 where
   row-question-6 : (refuses (Write 0xf4a 0x030b ∷ []) 0xe1a 0x0300 ≡ 6) × (refuses (Write 0xf50 0x1234 ∷ []) 0xe1a 0x0300 ≡ 6)
   -- question 7: the next rate, word 4 otherwise, MOD_CNT and the pattern
   row-question-7 : (refuses (Write 0xf48 0x0002 ∷ []) 0xe1a 0x0300 ≡ 7) × (refuses (Write 0xf48 0x0011 ∷ []) 0xe1a 0x0300 ≡ 7) × (refuses (Write 0xf48 0x0101 ∷ []) 0xe1a 0x0300 ≡ 7) × (refuses (Write 0xf52 0x2234 ∷ []) 0xe1a 0x0300 ≡ 7)
-  -- question 8: P(N) at least 1 and P(1) at most $7FFF
+  -- question 8: the shortest and the longest period
   row-question-8 : (refuses (Write 0xf56 5 ∷ []) 0xe1a 0x0300 ≡ 0) × (refuses (Write 0xf56 4 ∷ []) 0xe1a 0x0300 ≡ 8) × (refuses (Write 0xf54 0 ∷ Write 0xf56 0x7fff ∷ []) 0xe1a 0x0300 ≡ 0) × (refuses (Write 0xf54 0 ∷ Write 0xf56 0x8000 ∷ []) 0xe1a 0x0300 ≡ 8)
   -- question 9: the target at most $FFFF - N, at the request and while bound
   row-question-9 : (refuses (Write 0xf46 0xfffc ∷ []) 0xe1a 0x0300 ≡ 0) × (refuses (Write 0xf46 0xfffd ∷ []) 0xe1a 0x0300 ≡ 9) × (refuses (Write 0xe1a 0x0300 ∷ []) 0xf46 0xfffd ≡ 9) × (refuses [] 0xf46 0xfffd ≡ 0)

@@ -1,5 +1,5 @@
 -- A scan that passes a channel over leaves the state as the definition does, and one that stops there does what it says.
-use Prim.Native.Nat.{ℕ}
+use Prim.Native.Nat.{ℕ, _<_}
 use mathlib.Core.Bool.{Bool, true, false, not}
 use mathlib.Core.Path.{_≡_, refl, ap, _∙_}
 use native.Mathlib.Omega.{arith}
@@ -56,11 +56,13 @@ not-matched-rests Requested c s h = refl
 not-matched-rests (Armed time) c s h = refl
 not-matched-rests (Matched captured) c s h = absurd (not-both refl h)
 
+-- 00 and 01 ask neither to initialise nor to step
+pub neither : (r : ℕ) → r < 2 → (eqb r 2 ≡ false) × (eqb r 3 ≡ false)
+neither r h = (ne-eqb r 2 (λ e. omega (arith, h, e)), ne-eqb r 3 (λ e. omega (arith, h, e)))
+
 no-request-rests : (s : State) (c : ℕ) → leb 2 (request s c) ≡ false → requestServed c s ≡ s
 unfolding requestServed
-no-request-rests s c h =
-    let l = leb-false 2 (request s c) h in
-    rw (ne-eqb (request s c) 2 (λ e. omega (arith, e, l)), ne-eqb (request s c) 3 (λ e. omega (arith, e, l)))
+no-request-rests s c h = let e = neither (request s c) (leb-false 2 (request s c) h) in rw (e .0, e .1)
 
 passed-over : (b q m : Bool) {A : Type 0} (x y s : A) → (q ≡ false → x ≡ y) → (m ≡ false → y ≡ s) → pick b false (pick q true m) ≡ false → pick (not b) x s ≡ s
 passed-over true q m x y s f g h = refl

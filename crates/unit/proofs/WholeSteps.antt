@@ -70,7 +70,7 @@ count-small Left m = omega arith
 pub count-stands : (w4 m k : ℕ) → m < 16 → field 4 (withField 4 (withField 4 w4 8 m) 0 k) 8 ≡ m
 count-stands w4 m k h = field-above 4 (withField 4 w4 8 m) 0 k 4 8 (omega arith) ∙ field-set 4 w4 8 m ∙ mod-eq-of-lt h
 
-mod-small : (s : State) (c : ℕ) → modCount s c < 16
+pub mod-small : (s : State) (c : ℕ) → modCount s c < 16
 unfolding modCount
 mod-small s c = field-lt 4 (word s c 4) 8
 

@@ -42,11 +42,18 @@ pub ruleset cases = (needs, le-leb, lt-leb, lt-ltb, le-ltb, eq-eqb, ne-eqb)
 -- what `omega` reads off the tests in scope: `omega (arith, tests)`
 pub ruleset tests = (ltb-true, ltb-false, leb-true, leb-false, eqb-true)
 
+-- what `if !r` says where r is the answer to q
+pub said-no : (q r : Bool) → r ≡ q → not r ≡ true → q ≡ false
+said-no q r e t = sym e ∙ not-true r t
+
+pub said-yes : (q r : Bool) → r ≡ q → not r ≡ false → q ≡ true
+said-yes q r e t = sym e ∙ not-false r t
+
 -- for a return behind questions, r being what the question's function answered: `search (goes-on, stops)`
 pub goes-on : {A : Type 0} (q r : Bool) (refusal v rest : A) → r ≡ q → not r ≡ false → v ≡ rest → v ≡ ask q refusal rest
 unfolding ask
-goes-on q r refusal v rest e t h = rw (sym e ∙ not-false r t) h
+goes-on q r refusal v rest e t h = rw (said-yes q r e t) h
 
 pub stops : {A : Type 0} (q r : Bool) (refusal rest : A) → r ≡ q → not r ≡ true → refusal ≡ ask q refusal rest
 unfolding ask
-stops q r refusal rest e t = rw (sym e ∙ not-true r t)
+stops q r refusal rest e t = rw (said-no q r e t)

@@ -5,7 +5,7 @@ use mathlib.Core.Logic.{⊎-elim}
 use mathlib.Core.Bool.{_||_}
 use Prim.Native.Nat.{_+_, _-_, _≤_}
 use Rattle.unit.specs.TheUnit.{any, channel, stepping, reaches, isBound}
-use Rattle.access.proofs.Loops.{or-no, any-yes, any-not, reaches-yes, reaches-past, reaches-resting}
+use Rattle.access.proofs.Loops.{or-no, next-yes, next-not, reaches-yes, reaches-past, reaches-resting}
 use Rattle.access.proofs.group.is_bound.Statement.{statement}
 use Rattle.access.proofs.group.is_bound.Tie as tie
 
@@ -52,10 +52,10 @@ loop-again c =
     let e : c .before .bound .result ≡ stepping s (l .p) = c .before .bound .ensures in
     let next : c .if1 .found ≡ (stepping s d || any (l .p + 1) 0 (reaches s d)) =
     ⊎-elim
-    (λ w. w .3 ∙ any-yes (stepping s d) (l .p) 0 (l .p) (reaches s d) (omega arith) (reaches-yes s d (l .p) (sym e ∙ w .0 .taken) (sym (w .1 .ensures) ∙ w .2 .taken)))
+    (λ w. w .3 ∙ next-yes (stepping s d) (l .p) 0 (l .p) (reaches s d) (omega arith) (reaches-yes s d (l .p) (sym e ∙ w .0 .taken) (sym (w .1 .ensures) ∙ w .2 .taken)))
     (⊎-elim
-    (λ w. w .3 ∙ (l .inv .1 ∙ any-not (stepping s d) (l .p) 0 (l .p) (reaches s d) (omega arith) (reaches-past s d (l .p) (sym (w .1 .ensures) ∙ w .2 .left))))
-    (λ w. w .1 ∙ (l .inv .1 ∙ any-not (stepping s d) (l .p) 0 (l .p) (reaches s d) (omega arith) (reaches-resting s d (l .p) (sym e ∙ w .0 .left)))))
+    (λ w. w .3 ∙ (l .inv .1 ∙ next-not (stepping s d) (l .p) 0 (l .p) (reaches s d) (omega arith) (reaches-past s d (l .p) (sym (w .1 .ensures) ∙ w .2 .left))))
+    (λ w. w .1 ∙ (l .inv .1 ∙ next-not (stepping s d) (l .p) 0 (l .p) (reaches s d) (omega arith) (reaches-resting s d (l .p) (sym e ∙ w .0 .left)))))
     (c .if1 .came) in
     (omega arith, next)
 

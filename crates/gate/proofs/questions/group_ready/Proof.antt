@@ -5,7 +5,7 @@ use native.Mathlib.Omega.{arith}
 use borrow.Author.Needs.{needs}
 use Rattle.unit.specs.TheUnit.{all}
 use Rattle.unit.specs.Gate.{isReady, groupReady}
-use Rattle.gate.proofs.Channels.{said-no, said-yes}
+use Rattle.gate.proofs.Channels.{asked-no, asked-yes}
 use Rattle.access.proofs.Loops.{in-group}
 use Rattle.gate.proofs.questions.group_ready.Statement.{statement}
 use Rattle.gate.proofs.questions.group_ready.Tie as tie
@@ -46,8 +46,8 @@ loop-again c =
     let f = isReady (a .s) in
     let next : c .if1 .ready ≡ all (l .k + 1) (a .c) f =
     ⊎-elim
-    (λ w. said-no (l .k) (a .c) f _ _ e (w .0 .taken) (w .1))
-    (λ w. said-yes (l .k) (a .c) f _ _ e (w .0 .left) (w .1 ∙ l .inv .1))
+    (λ w. asked-no (l .k) (a .c) f _ _ e (w .0 .taken) (w .1))
+    (λ w. asked-yes (l .k) (a .c) f _ _ e (w .0 .left) (w .1 ∙ l .inv .1))
     (c .if1 .came) in
     (omega arith, next)
 

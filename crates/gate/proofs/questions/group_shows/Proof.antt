@@ -5,8 +5,9 @@ use native.Mathlib.Omega.{arith}
 use borrow.Author.Needs.{needs}
 use Rattle.unit.specs.TheUnit.{all}
 use Rattle.unit.specs.Gate.{showsPattern}
-use Rattle.gate.proofs.Channels.{said-no, said-yes}
-use Rattle.access.proofs.Loops.{in-group, count-small}
+use Rattle.gate.proofs.Channels.{asked-no, asked-yes}
+use Rattle.access.proofs.Loops.{in-group}
+use Rattle.unit.proofs.WholeSteps.{mod-small}
 use Rattle.gate.proofs.questions.group_shows.Statement.{statement}
 use Rattle.gate.proofs.questions.group_shows.Tie as tie
 
@@ -33,7 +34,7 @@ add-shows-pattern c =
     omega (arith, h)
 
 shows-pattern-requires : tie.Need-shows-pattern-requires Inv-loop μ-loop
-shows-pattern-requires c κs = rw (c .before .before .mod-count .ensures) (count-small _ _)
+shows-pattern-requires c κs = rw (c .before .before .mod-count .ensures) (mod-small _ _)
 
 add-k : tie.Need-add-k Inv-loop μ-loop
 add-k c = omega arith
@@ -49,8 +50,8 @@ loop-again c =
     let f = showsPattern (a .s) (c .before .before .before .before .mod-count .result) in
     let next : c .if1 .shown ≡ all (l .k + 1) (a .c) f =
     ⊎-elim
-    (λ w. said-no (l .k) (a .c) f _ _ e (w .0 .taken) (w .1))
-    (λ w. said-yes (l .k) (a .c) f _ _ e (w .0 .left) (w .1 ∙ l .inv .1))
+    (λ w. asked-no (l .k) (a .c) f _ _ e (w .0 .taken) (w .1))
+    (λ w. asked-yes (l .k) (a .c) f _ _ e (w .0 .left) (w .1 ∙ l .inv .1))
     (c .if1 .came) in
     (omega arith, next)
 

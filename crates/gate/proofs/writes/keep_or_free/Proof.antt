@@ -5,7 +5,7 @@ use native.Mathlib.Omega.{arith}
 use borrow.Author.Needs.{needs}
 use Rattle.unit.specs.TheUnit.{all}
 use Rattle.unit.specs.Gate.{keepsOrFree}
-use Rattle.gate.proofs.Channels.{said-no, said-yes}
+use Rattle.gate.proofs.Channels.{asked-no, asked-yes}
 use Rattle.gate.proofs.writes.keep_or_free.Statement.{statement}
 use Rattle.gate.proofs.writes.keep_or_free.Tie as tie
 
@@ -39,8 +39,8 @@ loop-again c =
     let f = keepsOrFree (a .s) (a .v) in
     let next : c .if1 .free ≡ all (l .k + 1) (a .a) f =
     ⊎-elim
-    (λ w. said-no (l .k) (a .a) f _ _ e (w .0 .taken) (w .1))
-    (λ w. said-yes (l .k) (a .a) f _ _ e (w .0 .left) (w .1 ∙ l .inv .1))
+    (λ w. asked-no (l .k) (a .a) f _ _ e (w .0 .taken) (w .1))
+    (λ w. asked-yes (l .k) (a .a) f _ _ e (w .0 .left) (w .1 ∙ l .inv .1))
     (c .if1 .came) in
     (omega arith, next)
 

@@ -2,7 +2,7 @@ use native.Mathlib.Omega.{arith}
 use borrow.Author.Needs.{needs}
 use Rattle.script.specs.Parsing.{readLine}
 use Rattle.words.proofs.ChoiceLaws.{cases}
-use Rattle.script.proofs.ParsingLaws.{said-no, said-yes}
+use Rattle.words.proofs.ChoiceLaws.{said-no, said-yes}
 use Rattle.script.proofs.parse.read_line.Statement.{statement}
 use Rattle.script.proofs.parse.read_line.Tie as tie
 

@@ -5,7 +5,7 @@ use lib.ListN.{length}
 use borrow.Author.Needs.{needs}
 use Rattle.script.specs.Parsing.{ticksLine}
 use Rattle.words.proofs.ChoiceLaws.{cases}
-use Rattle.script.proofs.ParsingLaws.{said-no, said-yes}
+use Rattle.words.proofs.ChoiceLaws.{said-no, said-yes}
 use Rattle.script.proofs.parse.ticks_line.Statement.{statement}
 use Rattle.script.proofs.parse.ticks_line.Tie as tie
 

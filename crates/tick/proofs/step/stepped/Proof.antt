@@ -1,4 +1,5 @@
-use Rattle.access.proofs.Loops.{group-end, count-small}
+use Rattle.access.proofs.Loops.{group-end}
+use Rattle.unit.proofs.WholeSteps.{mod-small}
 use Rattle.unit.specs.Stepping.{stepped}
 use borrow.Author.Needs.{needs}
 use Rattle.tick.proofs.step.stepped.Statement.{statement}
@@ -8,7 +9,7 @@ mod-count-requires : tie.Need-mod-count-requires
 mod-count-requires c κs = search needs
 
 next-count-requires : tie.Need-next-count-requires
-next-count-requires c κs = rw (c .mod-count .ensures) (count-small _ _)
+next-count-requires c κs = rw (c .mod-count .ensures) (mod-small _ _)
 
 step-period-requires : tie.Need-step-period-requires
 step-period-requires c κs = search needs

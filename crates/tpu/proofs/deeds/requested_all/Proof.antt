@@ -6,7 +6,7 @@ use Prim.Native.Nat.{_+_, _-_, _≤_}
 use Rattle.unit.specs.TheUnit.{each}
 use Rattle.unit.specs.Gate.{requested, requestedOne}
 use Rattle.access.proofs.Loops.{each-next}
-use Rattle.tpu.proofs.Requests.{asks-nothing}
+use Rattle.tpu.proofs.Requests.{requests-nothing}
 use Rattle.tpu.proofs.deeds.requested_all.Statement.{statement}
 use Rattle.tpu.proofs.deeds.requested_all.Tie as tie
 
@@ -47,7 +47,7 @@ loop-again c =
     let step : c .if1 .s ≡ requested (l .s) (a .a + l .k) r =
     ⊎-elim
     (λ w. w .2 ∙ w .1 .ensures)
-    (λ w. w .1 ∙ sym (asks-nothing (l .s) (a .a + l .k) r (w .0 .left)))
+    (λ w. w .1 ∙ sym (requests-nothing (l .s) (a .a + l .k) r (w .0 .left)))
     (c .if1 .came) in
     let next : c .if1 .s ≡ requestedOne (a .v) (a .a + l .k) (l .s) = rw (← c .before .pair .ensures) step in
     (omega arith, next ∙ (ap (requestedOne (a .v) (a .a + l .k)) (l .inv .1) ∙ sym (each-next (l .k) (a .a) (a .a + l .k) (requestedOne (a .v)) _ refl)))
