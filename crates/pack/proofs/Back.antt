@@ -1,0 +1,118 @@
+-- A state packed gives itself back, and the one after reset is packed as zeros.
+use mathlib.Core.Bool.{Bool, true, false}
+use mathlib.Core.Path.{_≡_, refl, sym, ap, _∙_}
+use Prim.Native.Nat.{ℕ, _+_, _-_, _*_, _≤_, _<_}
+use native.Mathlib.Omega.{arith}
+use mathlib.Core.List.{map}
+use lib.Dec.{eqb}
+use lib.ListN.{length, getD, replicate, length-map}
+use borrow.Author.Tests.{eq-eqb}
+use Rattle.words.specs.Field.{field, bitOf, bitValue}
+use Rattle.motor.specs.declared.Way.{Way}
+use Rattle.motor.specs.declared.Way.the-variants.{Right, Left}
+use Rattle.motor.specs.declared.Phase.{Phase}
+use Rattle.motor.specs.declared.Phase.the-variants.{Resting, Requested, Armed, Matched}
+use Rattle.unit.specs.declared.Channel.{Channel}
+use Rattle.unit.specs.declared.State.{State}
+use Rattle.unit.specs.TheUnit.{idle, resetState}
+use Rattle.unit.proofs.Reset.{Sized}
+use Rattle.pack.specs.Packing.{tabulate, wayNumber, wayFrom, phaseNumber, timeIn, phaseFrom, flagsOf, timeOf, channelFrom, packedWord, packed, isWhole, wordIn, regIn, channelIn, stateIn, unpacked}
+use Rattle.pack.proofs.Tabled.{length-tabled, tabled-at, tabled-is}
+use Rattle.pack.proofs.Parts.{at-words, at-registers, at-timer, at-pins, at-flags, at-times}
+
+-- ---- a channel
+
+-- the flags are four numbers side by side
+flags-apart : (a b c d : ℕ) → a ≤ 1 → b ≤ 1 → c ≤ 1 → d ≤ 3
+    → let w : ℕ = a + 2 * b + 4 * c + 8 * d in
+    (field 1 w 0 ≡ a) × (field 1 w 1 ≡ b) × (field 1 w 2 ≡ c) × (field 2 w 3 ≡ d)
+unfolding field
+flags-apart a b c d ha hb hc hd = (omega arith, omega arith, omega arith, omega arith)
+
+bit-small : (b : Bool) → bitValue b ≤ 1
+bit-small true = omega arith
+bit-small false = omega arith
+
+way-small : (w : Way) → wayNumber w ≤ 1
+way-small Right = omega arith
+way-small Left = omega arith
+
+phase-small : (p : Phase) → phaseNumber p ≤ 3
+phase-small Resting = omega arith
+phase-small Requested = omega arith
+phase-small (Armed time) = omega arith
+phase-small (Matched captured) = omega arith
+
+bit-back : (b : Bool) → eqb (bitValue b) 1 ≡ b
+bit-back true = refl
+bit-back false = refl
+
+way-back : (w : Way) → wayFrom (eqb (wayNumber w) 1) ≡ w
+way-back Right = refl
+way-back Left = refl
+
+phase-back : (p : Phase) → phaseFrom (phaseNumber p) (timeIn p) ≡ p
+unfolding phaseFrom
+phase-back Resting = refl
+phase-back Requested = refl
+phase-back (Armed time) = refl
+phase-back (Matched captured) = refl
+
+channel-back : (x : Channel) → channelFrom (flagsOf x) (timeOf x) ≡ x
+unfolding channelFrom flagsOf timeOf bitOf
+channel-back x =
+    let parts = flags-apart (bitValue (x .initialised)) (bitValue (x .level)) (wayNumber (x .way)) (phaseNumber (x .phase)) (bit-small (x .initialised)) (bit-small (x .level)) (way-small (x .way)) (phase-small (x .phase)) in
+    rw (parts .0, parts .1, parts .2, parts .3, bit-back (x .initialised), bit-back (x .level), way-back (x .way), phase-back (x .phase))
+
+-- ---- a state
+
+word-of : (st : State) (i : ℕ) → i < 174 → getD (packed st) i 0 ≡ packedWord st i
+unfolding packed
+word-of st i h = tabled-at (packedWord st) 0 174 i h
+
+words-back : (st : State) → Sized st → tabulate 128 (wordIn (packed st)) ≡ st .words
+words-back st z = tabled-is _ 0 (st .words) 128 (z .words) (λ i h. word-of st i (omega arith) ∙ sym (at-words st i h))
+
+regs-back : (st : State) → Sized st → tabulate 12 (regIn (packed st)) ≡ st .regs
+regs-back st z = tabled-is _ 0 (st .regs) 12 (z .regs) each
+  where
+    each : (i : ℕ) → i < 12 → regIn (packed st) i ≡ getD (st .regs) i 0
+    each i h =
+        let e : 128 + i - 128 ≡ i = omega arith in
+        word-of st (128 + i) (omega arith) ∙ sym (at-registers st (128 + i) (omega arith) (omega arith)) ∙ ap (λ (k : ℕ). getD (st .regs) k 0) e
+
+channels-back : (st : State) → Sized st → tabulate 16 (channelIn (packed st)) ≡ st .channels
+channels-back st z = tabled-is _ idle (st .channels) 16 (z .channels) each
+  where
+    each : (i : ℕ) → i < 16 → channelIn (packed st) i ≡ getD (st .channels) i idle
+    each i h =
+        let x = getD (st .channels) i idle in
+        let e : 142 + i - 142 ≡ i = omega arith in
+        let f : 158 + i - 158 ≡ i = omega arith in
+        let flags : getD (packed st) (142 + i) 0 ≡ flagsOf x = word-of st (142 + i) (omega arith) ∙ sym (at-flags st (142 + i) (omega arith) (omega arith)) ∙ ap (λ (k : ℕ). flagsOf (getD (st .channels) k idle)) e in
+        let time : getD (packed st) (158 + i) 0 ≡ timeOf x = word-of st (158 + i) (omega arith) ∙ sym (at-times st (158 + i) (omega arith)) ∙ ap (λ (k : ℕ). timeOf (getD (st .channels) k idle)) f in
+        rw (flags, time) (channel-back x)
+
+in-back : (st : State) → Sized st → stateIn (packed st) ≡ st
+unfolding stateIn
+in-back st z =
+    let t : getD (packed st) 140 0 ≡ st .tcr1 = word-of st 140 (omega arith) ∙ sym (at-timer st) in
+    let p : getD (packed st) 141 0 ≡ st .pins = word-of st 141 (omega arith) ∙ sym (at-pins st) in
+    rw (words-back st z, regs-back st z, t, p, channels-back st z)
+
+whole-packed : (st : State) → isWhole (packed st) ≡ true
+unfolding isWhole packed
+whole-packed st = eq-eqb _ 174 (length-tabled (packedWord st) 174)
+
+back : (st : State) → Sized st → unpacked (packed st) ≡ st
+unfolding unpacked
+back st z = rw (whole-packed st) (in-back st z)
+
+-- for a state of the type: what owning it tells of its channels is the length of a list made from theirs
+pub back-owned : {Y : Type 0} (f : Channel → Y) (st : State) → length (st .words) ≡ 128 → length (st .regs) ≡ 12 → length (map f (st .channels)) ≡ 16 → unpacked (packed st) ≡ st
+back-owned f st words regs channels =
+    back st record { words = words; regs = regs; channels = sym (length-map (st .channels) f) ∙ channels }
+
+pub reset-zeros : packed resetState ≡ replicate 174 0
+unfolding packed tabulate packedWord flagsOf timeOf
+reset-zeros = refl

@@ -1,0 +1,33 @@
+-- The words of a packed state, part by part.
+use mathlib.Core.Path.{_≡_, refl}
+use Prim.Native.Nat.{ℕ, _-_, _<_, _≤_}
+use native.Mathlib.Omega.{arith}
+use lib.ListN.{getD}
+use borrow.Author.Tests.{lt-ltb, le-ltb}
+use Rattle.unit.specs.declared.State.{State}
+use Rattle.unit.specs.TheUnit.{idle}
+use Rattle.pack.specs.Packing.{packedWord, flagsOf, timeOf}
+
+pub at-words : (st : State) (i : ℕ) → i < 128 → getD (st .words) i 0 ≡ packedWord st i
+unfolding packedWord
+at-words st i h = simp (lt-ltb _ _ h)
+
+pub at-registers : (st : State) (i : ℕ) → 128 ≤ i → i < 140 → getD (st .regs) (i - 128) 0 ≡ packedWord st i
+unfolding packedWord
+at-registers st i l h = simp (le-ltb _ _ l, lt-ltb _ _ h)
+
+pub at-timer : (st : State) → st .tcr1 ≡ packedWord st 140
+unfolding packedWord
+at-timer st = refl
+
+pub at-pins : (st : State) → st .pins ≡ packedWord st 141
+unfolding packedWord
+at-pins st = refl
+
+pub at-flags : (st : State) (i : ℕ) → 142 ≤ i → i < 158 → flagsOf (getD (st .channels) (i - 142) idle) ≡ packedWord st i
+unfolding packedWord
+at-flags st i l h = simp (le-ltb i 128 (omega arith), le-ltb i 140 (omega arith), le-ltb i 141 (omega arith), le-ltb i 142 l, lt-ltb i 158 h)
+
+pub at-times : (st : State) (i : ℕ) → 158 ≤ i → timeOf (getD (st .channels) (i - 158) idle) ≡ packedWord st i
+unfolding packedWord
+at-times st i l = simp (le-ltb i 128 (omega arith), le-ltb i 140 (omega arith), le-ltb i 141 (omega arith), le-ltb i 142 (omega arith), le-ltb i 158 l)

@@ -1,0 +1,38 @@
+use Prim.Native.Nat.{_/_, _^_}
+use lib.Bits.{and-mask}
+use Rattle.words.specs.Field.{field}
+use Rattle.pack.specs.Packing.{channelFrom}
+use borrow.Author.Needs.{needs}
+use Rattle.pack.proofs.channels.channel_from.Statement.{statement}
+use Rattle.pack.proofs.channels.channel_from.Tie as tie
+
+bit-requires : tie.Need-bit-requires
+bit-requires c κs = search needs
+
+way-from-requires : tie.Need-way-from-requires
+way-from-requires c κs = search needs
+
+phase-from-requires : tie.Need-phase-from-requires
+phase-from-requires c κs = search needs
+
+bit-requires-2 : tie.Need-bit-requires-2
+bit-requires-2 c κs = search needs
+
+bit-requires-3 : tie.Need-bit-requires-3
+bit-requires-3 c κs = search needs
+
+returns : tie.Need-returns
+unfolding channelFrom field
+returns c =
+    rw (c .bit3 .ensures, c .before .bit2 .ensures, c .before .before .phase-from .ensures, c .before .before .before .way-from .ensures, c .before .before .before .before .bit .ensures, and-mask (c .before .before .before .before .before .args .flags / 2 ^ 3) 2)
+
+pub channel-from-spec : {M : Type 1} → statement M
+channel-from-spec =
+    tie.close
+    (tie.spec
+    bit-requires
+    way-from-requires
+    phase-from-requires
+    bit-requires-2
+    bit-requires-3
+    returns)

@@ -1,0 +1,55 @@
+use Rattle.pack.specs.Packing.{flagsOf}
+use borrow.Author.Needs.{needs}
+use Rattle.pack.proofs.channels.flags_of.Statement.{statement}
+use Rattle.pack.proofs.channels.flags_of.Tie as tie
+
+bit-number-requires : tie.Need-bit-number-requires
+bit-number-requires c κs = search needs
+
+bit-number-requires-2 : tie.Need-bit-number-requires-2
+bit-number-requires-2 c κs = search needs
+
+mul-result : tie.Need-mul-result
+mul-result c = search needs
+
+add-result : tie.Need-add-result
+add-result c = search needs
+
+way-number-requires : tie.Need-way-number-requires
+way-number-requires c κs = search needs
+
+mul-result-2 : tie.Need-mul-result-2
+mul-result-2 c = search needs
+
+add-result-2 : tie.Need-add-result-2
+add-result-2 c = search needs
+
+phase-number-requires : tie.Need-phase-number-requires
+phase-number-requires c κs = search needs
+
+mul-result-3 : tie.Need-mul-result-3
+mul-result-3 c = search needs
+
+add-result-3 : tie.Need-add-result-3
+add-result-3 c = search needs
+
+returns : tie.Need-returns
+unfolding flagsOf
+returns c =
+    rw (c .phase-number .ensures .0, c .before .way-number .ensures .0, c .before .before .bit-number2 .ensures .0, c .before .before .before .bit-number .ensures .0)
+
+pub flags-of-spec : {M : Type 1} → statement M
+flags-of-spec =
+    tie.close
+    (tie.spec
+    bit-number-requires
+    bit-number-requires-2
+    mul-result
+    add-result
+    way-number-requires
+    mul-result-2
+    add-result-2
+    phase-number-requires
+    mul-result-3
+    add-result-3
+    returns)

@@ -1,0 +1,34 @@
+use Rattle.pack.specs.Packing.{stateIn}
+use borrow.Author.Needs.{needs}
+use Rattle.pack.proofs.reading.state_in.Statement.{statement}
+use Rattle.pack.proofs.reading.state_in.Tie as tie
+
+words-in-requires : tie.Need-words-in-requires
+words-in-requires c κs = search needs
+
+regs-in-requires : tie.Need-regs-in-requires
+regs-in-requires c κs = search needs
+
+channels-in-requires : tie.Need-channels-in-requires
+channels-in-requires c κs = search needs
+
+shared-slice-read-t6 : tie.Need-shared-slice-read-t6
+shared-slice-read-t6 c = search needs
+
+shared-slice-read-t8 : tie.Need-shared-slice-read-t8
+shared-slice-read-t8 c = search needs
+
+returns : tie.Need-returns
+unfolding stateIn
+returns c = rw (c .before .before .channels-in .ensures, c .before .before .before .regs-in .ensures, c .before .before .before .before .words-in .ensures)
+
+pub state-in-spec : {M : Type 1} → statement M
+state-in-spec =
+    tie.close
+    (tie.spec
+    words-in-requires
+    regs-in-requires
+    channels-in-requires
+    shared-slice-read-t6
+    shared-slice-read-t8
+    returns)

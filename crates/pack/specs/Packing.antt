@@ -1,0 +1,107 @@
+-- The state in 174 words: 128 parameter words, 12 registers, TCR1, the pins, 16 words of flags, 16 times.
+use Prim.Native.Nat.{ℕ, zero, suc, _+_, _-_, _*_}
+use mathlib.Core.Bool.{Bool, true, false}
+use mathlib.Core.List.{List, [], _∷_, _++_}
+use lib.ListN.{length, getD}
+use lib.Dec.{eqb, ltb}
+use Rattle.words.specs.Choice.{pick}
+use Rattle.words.specs.Field.{field, bitOf, bitValue}
+use Rattle.motor.specs.declared.Way.{Way}
+use Rattle.motor.specs.declared.Way.the-variants.{Right, Left}
+use Rattle.motor.specs.declared.Phase.{Phase}
+use Rattle.motor.specs.declared.Phase.the-variants.{Resting, Requested, Armed, Matched}
+use Rattle.unit.specs.declared.Channel.{Channel}
+use Rattle.unit.specs.declared.State.{State}
+use Rattle.unit.specs.TheUnit.{idle, resetState}
+
+-- how many words hold a state
+abbrev pub stateWords : ℕ
+stateWords = 174
+
+-- f 0, f 1 and so on up to f (n - 1)
+unfoldable pub tabulate : {A : Type 0} → ℕ → (ℕ → A) → List A
+tabulate zero f = []
+tabulate (suc n) f = tabulate n f ++ (f n ∷ [])
+
+-- ---- what is kept of a channel, as a word of flags and a time
+
+-- bit 2 of the flags: the direction
+abbrev pub wayNumber : Way → ℕ
+wayNumber Right = 0
+wayNumber Left = 1
+
+abbrev pub wayFrom : Bool → Way
+wayFrom false = Right
+wayFrom true = Left
+
+-- bits 4 to 3: the phase
+abbrev pub phaseNumber : Phase → ℕ
+phaseNumber Resting = 0
+phaseNumber Requested = 1
+phaseNumber (Armed time) = 2
+phaseNumber (Matched captured) = 3
+
+-- the time of a phase, 0 where it has none
+abbrev pub timeIn : Phase → ℕ
+timeIn Resting = 0
+timeIn Requested = 0
+timeIn (Armed time) = time
+timeIn (Matched captured) = captured
+
+unfoldable pub phaseFrom : ℕ → ℕ → Phase
+phaseFrom number time =
+    pick (eqb number 1) Requested (pick (eqb number 2) (Armed time) (pick (eqb number 3) (Matched time) Resting))
+
+-- bit 0: the channel is initialised; bit 1: its prepared level
+unfoldable pub flagsOf : Channel → ℕ
+flagsOf x = bitValue (x .initialised) + 2 * bitValue (x .level) + 4 * wayNumber (x .way) + 8 * phaseNumber (x .phase)
+
+unfoldable pub timeOf : Channel → ℕ
+timeOf x = timeIn (x .phase)
+
+-- other bits of the flags, and the time of a phase that has none, mean nothing
+unfoldable pub channelFrom : ℕ → ℕ → Channel
+channelFrom flags time =
+    record { initialised = bitOf flags 0; level = bitOf flags 1; way = wayFrom (bitOf flags 2); phase = phaseFrom (field 2 flags 3) time }
+
+-- ---- a state as words
+
+-- word i
+unfoldable pub packedWord : State → ℕ → ℕ
+packedWord st i =
+    pick (ltb i 128) (getD (st .words) i 0)
+    (pick (ltb i 140) (getD (st .regs) (i - 128) 0)
+    (pick (ltb i 141) (st .tcr1)
+    (pick (ltb i 142) (st .pins)
+    (pick (ltb i 158) (flagsOf (getD (st .channels) (i - 142) idle))
+    (timeOf (getD (st .channels) (i - 158) idle))))))
+
+unfoldable pub packed : State → List ℕ
+packed st = tabulate stateWords (packedWord st)
+
+-- they are so many
+unfoldable pub isWhole : List ℕ → Bool
+isWhole s = eqb (length s) stateWords
+
+-- lent words after the state is laid in them
+unfoldable pub laid : State → List ℕ → List ℕ
+laid st s = pick (isWhole s) (packed st) s
+
+-- ---- words as a state
+
+abbrev pub wordIn : List ℕ → ℕ → ℕ
+wordIn s i = getD s i 0
+
+abbrev pub regIn : List ℕ → ℕ → ℕ
+regIn s i = getD s (128 + i) 0
+
+abbrev pub channelIn : List ℕ → ℕ → Channel
+channelIn s i = channelFrom (getD s (142 + i) 0) (getD s (158 + i) 0)
+
+unfoldable pub stateIn : List ℕ → State
+stateIn s =
+    record { words = tabulate 128 (wordIn s); regs = tabulate 12 (regIn s); tcr1 = getD s 140 0; pins = getD s 141 0; channels = tabulate 16 (channelIn s) }
+
+-- every content is a state; words of another number are the one after reset
+unfoldable pub unpacked : List ℕ → State
+unpacked s = pick (isWhole s) (stateIn s) resetState

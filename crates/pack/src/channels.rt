@@ -1,0 +1,99 @@
+// What is kept of a channel as two words, flags and a time, and back.
+ghost use mathlib.Core.Path.{_≡_};
+ghost use Prim.Native.Nat.{_≤_};
+ghost use Rattle.words.specs.Field.{bitValue};
+ghost use Rattle.pack.specs.Packing.{wayFrom, phaseFrom, channelFrom, wayNumber, phaseNumber, flagsOf, timeIn, timeOf};
+use motor::Phase;
+use motor::Way;
+use unit::Channel;
+use words::field;
+
+fn way_from(left: bool) -> Way
+    ensures { λ r. ⌜ r ≡ wayFrom left ⌝ }
+{
+    if left { Way::Left } else { Way::Right }
+}
+
+fn phase_from(number: u16, time: u16) -> Phase
+    ensures { λ r. ⌜ r ≡ phaseFrom number time ⌝ }
+{
+    if number == 1 {
+        return Phase::Requested;
+    }
+    if number == 2 {
+        return Phase::Armed(time);
+    }
+    if number == 3 {
+        return Phase::Matched(time);
+    }
+    Phase::Resting
+}
+
+pub fn channel_from(flags: u16, time: u16) -> Channel
+    ensures { λ r. ⌜ r ≡ channelFrom flags time ⌝ }
+{
+    let way = way_from(field::bit(flags, 2));
+    let phase = phase_from((flags >> 3) & 3, time);
+    Channel {
+        initialised: field::bit(flags, 0),
+        level: field::bit(flags, 1),
+        way: way,
+        phase: phase,
+    }
+}
+
+// Each number comes with its bound, so that the sum of the flags is seen to fit a word.
+fn bit_number(on: bool) -> u16
+    ensures { λ r. ⌜ (r ≡ bitValue on) × (r ≤ 1) ⌝ }
+{
+    if on { 1 } else { 0 }
+}
+
+fn way_number(w: Way) -> u16
+    ensures { λ r. ⌜ (r ≡ wayNumber w) × (r ≤ 1) ⌝ }
+{
+    match w {
+        Way::Right => 0,
+        Way::Left => 1,
+    }
+}
+
+fn phase_number(p: Phase) -> u16
+    ensures { λ r. ⌜ (r ≡ phaseNumber p) × (r ≤ 3) ⌝ }
+{
+    match p {
+        Phase::Resting => 0,
+        Phase::Requested => 1,
+        Phase::Armed(_) => 2,
+        Phase::Matched(_) => 3,
+    }
+}
+
+pub fn flags_of(x: Channel) -> u16
+    ensures { λ r. ⌜ r ≡ flagsOf x ⌝ }
+{
+    let way = x.way;
+    let phase = x.phase;
+    bit_number(x.initialised)
+        + 2 * bit_number(x.level)
+        + 4 * way_number(way)
+        + 8 * phase_number(phase)
+}
+
+fn time_in(p: Phase) -> u16
+    ensures { λ r. ⌜ r ≡ timeIn p ⌝ }
+{
+    match p {
+        Phase::Resting => 0,
+        Phase::Requested => 0,
+        Phase::Armed(time) => time,
+        Phase::Matched(time) => time,
+    }
+}
+
+pub fn time_of(x: Channel) -> u16
+    ensures { λ r. ⌜ r ≡ timeOf x ⌝ }
+{
+    let phase = x.phase;
+    time_in(phase)
+}

@@ -1,0 +1,56 @@
+// The state out of 174 words.
+ghost use mathlib.Core.Path.{_≡_};
+ghost use lib.ListN.{length};
+ghost use Rattle.pack.specs.Packing.{tabulate, wordIn, regIn, channelIn, stateIn};
+use crate::channels;
+use unit::Channel;
+use unit::State;
+
+fn words_in(s: &[u16]) -> [u16; 128]
+    requires { ⌜ length (now s) ≡ 174 ⌝ }
+    ensures { λ r. ⌜ r ≡ tabulate 128 (wordIn (now (s .entry))) ⌝ }
+{
+    let mut w = [0u16; 128];
+    for i in 0..128 {
+        w[i] = s[i];
+    }
+    w
+}
+
+fn regs_in(s: &[u16]) -> [u16; 12]
+    requires { ⌜ length (now s) ≡ 174 ⌝ }
+    ensures { λ r. ⌜ r ≡ tabulate 12 (regIn (now (s .entry))) ⌝ }
+{
+    let mut w = [0u16; 12];
+    for i in 0..12 {
+        w[i] = s[128 + i];
+    }
+    w
+}
+
+fn channels_in(s: &[u16]) -> [Channel; 16]
+    requires { ⌜ length (now s) ≡ 174 ⌝ }
+    ensures { λ r. ⌜ r ≡ tabulate 16 (channelIn (now (s .entry))) ⌝ }
+{
+    let mut w = [Channel::IDLE; 16];
+    for i in 0..16 {
+        w[i] = channels::channel_from(s[142 + i], s[158 + i]);
+    }
+    w
+}
+
+pub fn state_in(s: &[u16]) -> State
+    requires { ⌜ length (now s) ≡ 174 ⌝ }
+    ensures { λ r. ⌜ r ≡ stateIn (now (s .entry)) ⌝ }
+{
+    let words = words_in(s);
+    let regs = regs_in(s);
+    let channels = channels_in(s);
+    State {
+        words,
+        regs,
+        tcr1: s[140],
+        pins: s[141],
+        channels,
+    }
+}

@@ -1,0 +1,74 @@
+-- What the calls for C answer, and the lent words after them, for lists of any length and content. Document 01, "The unit" and "Questions at the gate".
+use Prim.Native.Nat.{ℕ, _*_}
+use mathlib.Core.List.{List}
+use Rattle.words.specs.Choice.{pick}
+use Rattle.words.specs.Field.{bitValue}
+use Rattle.unit.specs.declared.Reading.{Reading}
+use Rattle.unit.specs.declared.Reading.the-variants.{Word, Refused as NoWord}
+use Rattle.unit.specs.declared.Answer.{Answer}
+use Rattle.unit.specs.declared.Answer.the-variants.{Taken, Refused}
+use Rattle.unit.specs.declared.Answered.{Answered}
+use Rattle.unit.specs.declared.State.{State}
+use Rattle.unit.specs.TheUnit.{interruptLine}
+use Rattle.unit.specs.Calls.{readOf, writeOf, advanceOf, lentAfter}
+use Rattle.unit.specs.Moments.{isTaken}
+use Rattle.pack.specs.Packing.{packed, isWhole, unpacked}
+
+-- the answer where the lent words are not as many as hold a state; no question has this number
+abbrev pub wrongLength : ℕ
+wrongLength = 100
+
+-- 0: taken; else the question that said no
+unfoldable pub numberOf : Answer → ℕ
+numberOf Taken = 0
+numberOf (Refused n) = n
+
+-- the lent words after a call on the state that they hold: those of its next state where it is taken, else as they were
+unfoldable pub wordsAfter : Answered → List ℕ → List ℕ
+wordsAfter r s = pick (isTaken (r .answer)) (packed (r .state)) s
+
+-- ---- reset
+
+unfoldable pub resetAnswer : List ℕ → ℕ
+resetAnswer s = pick (isWhole s) 0 wrongLength
+
+-- ---- read
+
+-- the number stands in the high half, the word in the low half; a refused read has no word
+unfoldable pub readNumber : Reading → ℕ
+readNumber (Word w) = w
+readNumber (NoWord n) = n * 65536
+
+unfoldable pub readAnswer : List ℕ → ℕ → ℕ
+readAnswer s a = pick (isWhole s) (readNumber (readOf (unpacked s) a)) (wrongLength * 65536)
+
+-- ---- write
+
+unfoldable pub writeAnswer : List ℕ → ℕ → ℕ → ℕ
+writeAnswer s a v = pick (isWhole s) (numberOf ((writeOf (unpacked s) a v) .answer)) wrongLength
+
+unfoldable pub writeWords : List ℕ → ℕ → ℕ → List ℕ
+writeWords s a v = pick (isWhole s) (wordsAfter (writeOf (unpacked s) a v) s) s
+
+-- the state that they hold then
+unfoldable pub writeState : List ℕ → ℕ → ℕ → State
+writeState s a v = pick (isWhole s) ((writeOf (unpacked s) a v) .state) (unpacked s)
+
+-- ---- advance
+
+unfoldable pub advanceAnswer : List ℕ → ℕ → List ℕ → ℕ
+advanceAnswer s n pins = pick (isWhole s) (numberOf ((advanceOf (unpacked s) n pins) .answer)) wrongLength
+
+unfoldable pub advanceWords : List ℕ → ℕ → List ℕ → List ℕ
+advanceWords s n pins = pick (isWhole s) (wordsAfter (advanceOf (unpacked s) n pins) s) s
+
+unfoldable pub advanceState : List ℕ → ℕ → List ℕ → State
+advanceState s n pins = pick (isWhole s) ((advanceOf (unpacked s) n pins) .state) (unpacked s)
+
+unfoldable pub advancePins : List ℕ → ℕ → List ℕ → List ℕ
+advancePins s n pins = pick (isWhole s) (lentAfter (unpacked s) n pins) pins
+
+-- ---- the interrupt line
+
+unfoldable pub lineAnswer : List ℕ → ℕ
+lineAnswer s = pick (isWhole s) (bitValue (interruptLine (unpacked s))) wrongLength

@@ -1,0 +1,117 @@
+// The calls of the timer unit for C. The caller lends the words that hold the state; answers are numbers.
+ghost use mathlib.Core.Path.{_≡_};
+ghost use mathlib.Core.Bool.{true};
+ghost use lib.ListN.{length, replicate};
+ghost use Rattle.words.specs.Field.{bitValue};
+ghost use Rattle.unit.specs.TheUnit.{resetState};
+ghost use Rattle.unit.specs.Moments.{isTaken};
+ghost use Rattle.pack.specs.Packing.{stateWords, packed, laid, unpacked};
+ghost use Rattle.tpu_c.specs.Numbers.{numberOf, readNumber, wordsAfter, resetAnswer, readAnswer, writeAnswer, writeWords, writeState, advanceAnswer, advanceWords, advanceState, advancePins, lineAnswer};
+use unit::Answer;
+use unit::Answered;
+use unit::Reading;
+
+// The answer where the lent words are not as many as hold a state. No question of the gate has this number.
+const WRONG_LENGTH: u16 = 100;
+
+// How many words a state takes.
+#[no_mangle]
+pub extern "C" fn tpu_sm_state_words() -> u32
+    ensures { λ r. ⌜ r ≡ stateWords ⌝ }
+{
+    pack::WORDS as u32
+}
+
+// The words hold the state after reset, which is all zeros.
+#[no_mangle]
+pub extern "C" fn tpu_sm_reset(state: &mut [u16]) -> u16
+    ensures { λ r. ⌜ (r ≡ resetAnswer (now (state .entry)))
+        × (now (state .exit) ≡ laid resetState (now (state .entry)))
+        × (packed resetState ≡ replicate stateWords 0) ⌝ }
+{
+    if state.len() != pack::WORDS {
+        return WRONG_LENGTH;
+    }
+    pack::pack(tpu::reset(), state);
+    0
+}
+
+fn read_number(r: Reading) -> u32
+    ensures { λ n. ⌜ n ≡ readNumber r ⌝ }
+{
+    match r {
+        Reading::Word(w) => w as u32,
+        Reading::Refused(n) => n as u32 * 65536,
+    }
+}
+
+// The answer's number in the high half, 0 where the read is taken, and the word in the low half.
+#[no_mangle]
+pub extern "C" fn tpu_sm_read(state: &[u16], address: u16) -> u32
+    ensures { λ r. ⌜ r ≡ readAnswer (now (state .entry)) address ⌝ }
+{
+    if state.len() != pack::WORDS {
+        return WRONG_LENGTH as u32 * 65536;
+    }
+    read_number(tpu::read(pack::unpack(state), address))
+}
+
+// The state of a taken call goes to the lent words; a refused one leaves them, whatever they are.
+fn finish(r: Answered, state: &mut [u16]) -> u16
+    requires { ⌜ length (now state) ≡ 174 ⌝ }
+    ensures { λ n. ⌜ (n ≡ numberOf (r .answer)) × (now (state .exit) ≡ wordsAfter r (now (state .entry)))
+        × (isTaken (r .answer) ≡ true → unpacked (packed (r .state)) ≡ r .state) ⌝ }
+{
+    let answer = r.answer;
+    match answer {
+        Answer::Taken => {
+            pack::pack(r.state, state);
+            0
+        }
+        Answer::Refused(n) => n as u16,
+    }
+}
+
+// 0 where the write is taken, else the number of the question that refused it.
+#[no_mangle]
+pub extern "C" fn tpu_sm_write(state: &mut [u16], address: u16, value: u16) -> u16
+    ensures { λ r. ⌜ (r ≡ writeAnswer (now (state .entry)) address value)
+        × (now (state .exit) ≡ writeWords (now (state .entry)) address value)
+        × (unpacked (now (state .exit)) ≡ writeState (now (state .entry)) address value) ⌝ }
+{
+    if state.len() != pack::WORDS {
+        return WRONG_LENGTH;
+    }
+    finish(tpu::write(pack::unpack(state), address, value), state)
+}
+
+// n ticks, the pin word after each in the first n words of the list. Refused: neither list changes.
+#[no_mangle]
+pub extern "C" fn tpu_sm_advance(state: &mut [u16], n: u32, pins: &mut [u16]) -> u16
+    ensures { λ r. ⌜ (r ≡ advanceAnswer (now (state .entry)) n (now (pins .entry)))
+        × (now (state .exit) ≡ advanceWords (now (state .entry)) n (now (pins .entry)))
+        × (unpacked (now (state .exit)) ≡ advanceState (now (state .entry)) n (now (pins .entry)))
+        × (now (pins .exit) ≡ advancePins (now (state .entry)) n (now (pins .entry))) ⌝ }
+{
+    if state.len() != pack::WORDS {
+        return WRONG_LENGTH;
+    }
+    finish(tpu::advance(pack::unpack(state), n, pins), state)
+}
+
+fn bit_number(on: bool) -> u16
+    ensures { λ r. ⌜ r ≡ bitValue on ⌝ }
+{
+    if on { 1 } else { 0 }
+}
+
+// 1 where the interrupt line is up.
+#[no_mangle]
+pub extern "C" fn tpu_sm_interrupt_line(state: &[u16]) -> u16
+    ensures { λ r. ⌜ r ≡ lineAnswer (now (state .entry)) ⌝ }
+{
+    if state.len() != pack::WORDS {
+        return WRONG_LENGTH;
+    }
+    bit_number(tpu::interrupt_line(pack::unpack(state)))
+}
