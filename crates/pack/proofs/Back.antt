@@ -5,7 +5,7 @@ use Prim.Native.Nat.{ℕ, _+_, _-_, _*_, _≤_, _<_}
 use native.Mathlib.Omega.{arith}
 use mathlib.Core.List.{map}
 use lib.Dec.{eqb}
-use lib.ListN.{length, getD, replicate, length-map}
+use lib.ListN.{length, getD, length-map}
 use borrow.Author.Tests.{eq-eqb}
 use Rattle.words.specs.Field.{field, bitOf, bitValue}
 use Rattle.motor.specs.declared.Way.{Way}
@@ -16,7 +16,7 @@ use Rattle.unit.specs.declared.Channel.{Channel}
 use Rattle.unit.specs.declared.State.{State}
 use Rattle.unit.specs.TheUnit.{idle, resetState}
 use Rattle.unit.proofs.Reset.{Sized}
-use Rattle.pack.specs.Packing.{tabulate, wayNumber, wayFrom, phaseNumber, timeIn, phaseFrom, flagsOf, timeOf, channelFrom, packedWord, packed, isWhole, wordIn, regIn, channelIn, stateIn, unpacked}
+use Rattle.pack.specs.Packing.{tabulate, wayNumber, wayFrom, phaseNumber, timeIn, phaseFrom, flagsOf, timeOf, channelFrom, packedWord, packed, zeros, isWhole, wordIn, regIn, channelIn, stateIn, unpacked}
 use Rattle.pack.proofs.Tabled.{length-tabled, tabled-at, tabled-is}
 use Rattle.pack.proofs.Parts.{at-words, at-registers, at-timer, at-pins, at-flags, at-times}
 
@@ -113,6 +113,6 @@ pub back-owned : {Y : Type 0} (f : Channel → Y) (st : State) → length (st .w
 back-owned f st words regs channels =
     back st record { words = words; regs = regs; channels = sym (length-map (st .channels) f) ∙ channels }
 
-pub reset-zeros : packed resetState ≡ replicate 174 0
-unfolding packed tabulate packedWord flagsOf timeOf
+pub reset-zeros : packed resetState ≡ zeros
+unfolding zeros packed tabulate packedWord flagsOf timeOf
 reset-zeros = refl

@@ -2,7 +2,7 @@
 use Prim.Native.Nat.{ℕ, zero, suc, _+_, _-_, _*_}
 use mathlib.Core.Bool.{Bool, true, false}
 use mathlib.Core.List.{List, [], _∷_, _++_}
-use lib.ListN.{length, getD}
+use lib.ListN.{length, getD, replicate}
 use lib.Dec.{eqb, ltb}
 use Rattle.words.specs.Choice.{pick}
 use Rattle.words.specs.Field.{field, bitOf, bitValue}
@@ -78,6 +78,10 @@ packedWord st i =
 
 unfoldable pub packed : State → List ℕ
 packed st = tabulate stateWords (packedWord st)
+
+-- as many words, all 0
+unfoldable pub zeros : List ℕ
+zeros = replicate stateWords 0
 
 -- they are so many
 unfoldable pub isWhole : List ℕ → Bool

@@ -1,11 +1,11 @@
 // The calls of the timer unit for C. The caller lends the words that hold the state; answers are numbers.
 ghost use mathlib.Core.Path.{_≡_};
 ghost use mathlib.Core.Bool.{true};
-ghost use lib.ListN.{length, replicate};
+ghost use lib.ListN.{length};
 ghost use Rattle.words.specs.Field.{bitValue};
 ghost use Rattle.unit.specs.TheUnit.{resetState};
 ghost use Rattle.unit.specs.Moments.{isTaken};
-ghost use Rattle.pack.specs.Packing.{stateWords, packed, laid, unpacked};
+ghost use Rattle.pack.specs.Packing.{stateWords, packed, zeros, laid, unpacked};
 ghost use Rattle.tpu_c.specs.Numbers.{numberOf, readNumber, wordsAfter, resetAnswer, readAnswer, writeAnswer, writeWords, writeState, advanceAnswer, advanceWords, advanceState, advancePins, lineAnswer};
 use unit::Answer;
 use unit::Answered;
@@ -27,7 +27,7 @@ pub extern "C" fn tpu_sm_state_words() -> u32
 pub extern "C" fn tpu_sm_reset(state: &mut [u16]) -> u16
     ensures { λ r. ⌜ (r ≡ resetAnswer (now (state .entry)))
         × (now (state .exit) ≡ laid resetState (now (state .entry)))
-        × (packed resetState ≡ replicate stateWords 0) ⌝ }
+        × (packed resetState ≡ zeros) ⌝ }
 {
     if state.len() != pack::WORDS {
         return WRONG_LENGTH;
