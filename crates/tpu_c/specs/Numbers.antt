@@ -1,5 +1,5 @@
 -- What the calls for C answer, and the lent words after them, for lists of any length and content. Document 01, "The unit" and "Questions at the gate".
-use Prim.Native.Nat.{ℕ, _*_}
+use Prim.Native.Nat.{ℕ, _+_, _*_}
 use mathlib.Core.List.{List}
 use Rattle.words.specs.Choice.{pick}
 use Rattle.words.specs.Field.{bitValue}
@@ -34,13 +34,24 @@ resetAnswer s = pick (isWhole s) 0 wrongLength
 
 -- ---- read
 
--- the number stands in the high half, the word in the low half; a refused read has no word
 unfoldable pub readNumber : Reading → ℕ
-readNumber (Word w) = w
-readNumber (NoWord n) = n * 65536
+readNumber (Word w) = 0
+readNumber (NoWord n) = n
+
+-- a refused read has no word: 0 stands there
+unfoldable pub wordRead : Reading → ℕ
+wordRead (Word w) = w
+wordRead (NoWord n) = 0
 
 unfoldable pub readAnswer : List ℕ → ℕ → ℕ
-readAnswer s a = pick (isWhole s) (readNumber (readOf (unpacked s) a)) (wrongLength * 65536)
+readAnswer s a = pick (isWhole s) (readNumber (readOf (unpacked s) a)) wrongLength
+
+unfoldable pub readWord : List ℕ → ℕ → ℕ
+readWord s a = pick (isWhole s) (wordRead (readOf (unpacked s) a)) 0
+
+-- the answer and a word, in the high and the low half of one number
+unfoldable pub joined : ℕ → ℕ → ℕ
+joined answer w = answer * 65536 + w
 
 -- ---- write
 

@@ -1,12 +1,14 @@
 // The calls of the timer unit for C. The caller lends the words that hold the state; answers are numbers.
 ghost use mathlib.Core.Path.{_≡_};
+ghost use Prim.Native.Nat.{_<_};
 ghost use mathlib.Core.Bool.{true};
 ghost use lib.ListN.{length};
 ghost use Rattle.words.specs.Field.{bitValue};
 ghost use Rattle.unit.specs.TheUnit.{resetState};
 ghost use Rattle.unit.specs.Moments.{isTaken};
 ghost use Rattle.pack.specs.Packing.{stateWords, packed, zeros, laid, unpacked};
-ghost use Rattle.tpu_c.specs.Numbers.{numberOf, readNumber, wordsAfter, resetAnswer, readAnswer, writeAnswer, writeWords, writeState, advanceAnswer, advanceWords, advanceState, advancePins, lineAnswer};
+ghost use Rattle.tpu_c.specs.Refusals.{Refusals};
+ghost use Rattle.tpu_c.specs.Numbers.{numberOf, wordsAfter, resetAnswer, readNumber, wordRead, readAnswer, readWord, joined, writeAnswer, writeWords, writeState, advanceAnswer, advanceWords, advanceState, advancePins, lineAnswer};
 use unit::Answer;
 use unit::Answered;
 use unit::Reading;
@@ -36,8 +38,8 @@ pub extern "C" fn tpu_sm_reset(state: &mut [u16]) -> u16
     0
 }
 
-fn read_number(r: Reading) -> u32
-    ensures { λ n. ⌜ n ≡ readNumber r ⌝ }
+fn both_halves(r: Reading) -> u32
+    ensures { λ n. ⌜ (n ≡ joined (readNumber r) (wordRead r)) × (wordRead r < 65536) ⌝ }
 {
     match r {
         Reading::Word(w) => w as u32,
@@ -48,12 +50,13 @@ fn read_number(r: Reading) -> u32
 // The answer's number in the high half, 0 where the read is taken, and the word in the low half.
 #[no_mangle]
 pub extern "C" fn tpu_sm_read(state: &[u16], address: u16) -> u32
-    ensures { λ r. ⌜ r ≡ readAnswer (now (state .entry)) address ⌝ }
+    ensures { λ r. ⌜ (r ≡ joined (readAnswer (now (state .entry)) address) (readWord (now (state .entry)) address))
+        × (readWord (now (state .entry)) address < 65536) ⌝ }
 {
     if state.len() != pack::WORDS {
         return WRONG_LENGTH as u32 * 65536;
     }
-    read_number(tpu::read(pack::unpack(state), address))
+    both_halves(tpu::read(pack::unpack(state), address))
 }
 
 // The state of a taken call goes to the lent words; a refused one leaves them, whatever they are.
@@ -115,3 +118,8 @@ pub extern "C" fn tpu_sm_interrupt_line(state: &[u16]) -> u16
     }
     bit_number(tpu::interrupt_line(pack::unpack(state)))
 }
+
+// About every answer: a refusal has the number of a question, so 0 means taken, and only the length gives 100.
+pub fn refusals()
+    ensures { λ _. ⌜ Refusals ⌝ }
+{}
