@@ -1,5 +1,5 @@
 -- Every refusal has a question's number: the ways through the gate.
-use Prim.Native.Nat.{ℕ, zero, suc, _+_, _*_, _%_, _-_, _≤_}
+use Prim.Native.Nat.{ℕ, zero, suc, _+_, _*_, _%_, _-_}
 use native.Mathlib.Omega.{arith}
 use mathlib.Core.Bool.{Bool, _&&_}
 use mathlib.Core.List.{List}
@@ -27,22 +27,22 @@ abbrev AskedWell : Asked → Type 0
 AskedWell (Yes s) = Unit {0}
 AskedWell (No n) = Question n
 
-put : (q : Bool) (n : ℕ) (k : Asked) → 1 ≤ n → n ≤ 10 → AskedWell k → AskedWell (ask q (No n) k)
-put q n k l h x = ask-cases AskedWell q (No n) k (l, h) (λ t. x)
+put : (q : Bool) (n : ℕ) (k : Asked) → Question n → AskedWell k → AskedWell (ask q (No n) k)
+put q n k numbered x = ask-cases AskedWell q (No n) k numbered (λ t. x)
 
 asks-initialise : (s : State) (c : ℕ) → AskedWell (askInitialise s c)
 unfolding askInitialise
 asks-initialise s c =
-    put (isFree s c) 2 _ (omega arith) (omega arith) (put (isStepper s c) 3 _ (omega arith) (omega arith) (put (mayInitialise s c) 4 _ (omega arith) (omega arith) tt))
+    put (isFree s c) 2 _ (omega arith, omega arith) (put (isStepper s c) 3 _ (omega arith, omega arith) (put (mayInitialise s c) 4 _ (omega arith, omega arith) tt))
 
 asks-step : (s : State) (c : ℕ) → AskedWell (askStep s c)
 unfolding askStep
 asks-step s c =
     pick-cases AskedWell (stepping s c && eqb (request s c) 0)
-    (λ t. put (isStepper s c) 3 _ (omega arith) (omega arith) tt)
-    (λ t. put (isFree s c) 2 _ (omega arith) (omega arith) (put (isStepper s c) 3 _ (omega arith) (omega arith) (put (spanGood s c) 5 _ (omega arith) (omega arith)
-    (put (groupReady s c) 6 _ (omega arith) (omega arith) (put (patternGood s c) 7 _ (omega arith) (omega arith)
-    (put (rampGood (cntl0 s c) (cntl1 s c) (top s c)) 8 _ (omega arith) (omega arith) (put (targetGood s c (target s c)) 9 _ (omega arith) (omega arith) tt)))))))
+    (λ t. put (isStepper s c) 3 _ (omega arith, omega arith) tt)
+    (λ t. put (isFree s c) 2 _ (omega arith, omega arith) (put (isStepper s c) 3 _ (omega arith, omega arith) (put (spanGood s c) 5 _ (omega arith, omega arith)
+    (put (groupReady s c) 6 _ (omega arith, omega arith) (put (patternGood s c) 7 _ (omega arith, omega arith)
+    (put (rampGood (cntl0 s c) (cntl1 s c) (top s c)) 8 _ (omega arith, omega arith) (put (targetGood s c (target s c)) 9 _ (omega arith, omega arith) tt)))))))
 
 asks-channel : (r c : ℕ) (s : State) → AskedWell (askChannel r c s)
 unfolding askChannel
