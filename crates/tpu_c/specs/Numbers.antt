@@ -1,4 +1,5 @@
--- What the calls for C answer, and the lent words after them, for lists of any length and content. Document 01, "The unit" and "Questions at the gate".
+-- What the calls for C answer, and the lent words after them, for lists of any length and content.
+-- Document 01, "The unit" and "Questions at the gate".
 use Prim.Native.Nat.{ℕ, _+_, _*_}
 use mathlib.Core.List.{List}
 use Rattle.words.specs.Choice.{pick}

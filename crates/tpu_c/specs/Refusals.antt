@@ -1,4 +1,5 @@
--- The number of a refusal is that of a question, so it is neither 0 nor the number for a wrong length. Document 01, "Questions at the gate".
+-- The number of a refusal is that of a question, so it is neither 0 nor the number for a wrong length.
+-- Document 01, "Questions at the gate".
 use Prim.Native.Nat.{ℕ, _≤_}
 use mathlib.Core.List.{List}
 use Rattle.unit.specs.declared.State.{State}
