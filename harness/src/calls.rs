@@ -14,6 +14,16 @@ pub enum Call {
     Advance(u32, usize),
 }
 
+impl Call {
+    /// The ticks that a unit makes if this is an advance that it takes.
+    pub fn ticks(self) -> Option<u32> {
+        match self {
+            Call::Advance(n, length) if n <= MAX_TICKS && n as usize <= length => Some(n),
+            _ => None,
+        }
+    }
+}
+
 #[derive(Clone, Copy, Debug, PartialEq, Eq)]
 pub enum Answer {
     Word(u16),
@@ -23,21 +33,49 @@ pub enum Answer {
 
 /// What a lent list holds before the call.
 pub const MARK: u16 = 0x5AA5;
+const GUARD: usize = 16;
 
-/// Makes one call. The list is filled with marks first, to its length in the
-/// call, and holds after it what the unit left there.
-pub fn perform(unit: &mut dyn Unit, call: Call, list: &mut Vec<u16>) -> Answer {
-    list.clear();
+/// The list that an advance is lent, with guard words on both sides.
+#[derive(Default)]
+pub struct Lent {
+    words: Vec<u16>,
+}
+
+impl Lent {
+    /// So many marks.
+    fn lend(&mut self, length: usize) -> &mut [u16] {
+        self.words.clear();
+        self.words.resize(GUARD + length + GUARD, MARK);
+        &mut self.words[GUARD..GUARD + length]
+    }
+
+    /// What the latest call was lent; nothing, if it was no advance.
+    pub fn list(&self) -> &[u16] {
+        match self.words.len() {
+            0 => &[],
+            length => &self.words[GUARD..length - GUARD],
+        }
+    }
+
+    /// No guard word has been touched.
+    pub fn is_intact(&self) -> bool {
+        let list = self.list().len();
+        let before = self.words.iter().take(GUARD);
+        let after = self.words.iter().skip(GUARD + list);
+        before.chain(after).all(|&word| word == MARK)
+    }
+}
+
+/// Makes one call and leaves in the list what the unit left there.
+pub fn perform(unit: &mut dyn Unit, call: Call, lent: &mut Lent) -> Answer {
+    lent.words.clear();
     let done = match call {
         Call::Read(address) => match unit.read(address) {
             Ok(word) => return Answer::Word(word),
             Err(number) => Err(number),
         },
         Call::Write(address, value) => unit.write(address, value),
-        Call::Advance(n, length) => {
-            list.resize(length, MARK);
-            unit.advance(n, list)
-        }
+        Call::Advance(n, length) => unit.advance(n, lent.lend(length)),
     };
     match done {
         Ok(()) => Answer::Done,
@@ -92,7 +130,7 @@ pub struct Maker {
     unit: Plain,
     motors: Vec<Motor>,
     planned: VecDeque<Call>,
-    list: Vec<u16>,
+    lent: Lent,
 }
 
 impl Maker {
@@ -104,7 +142,7 @@ impl Maker {
             unit: Plain::default(),
             motors,
             planned: VecDeque::new(),
-            list: Vec::new(),
+            lent: Lent::default(),
         };
         if maker.random.one_in(8) {
             maker.reads();
@@ -118,7 +156,7 @@ impl Maker {
     pub fn next_call(&mut self) -> Call {
         loop {
             if let Some(call) = self.planned.pop_front() {
-                perform(&mut self.unit, call, &mut self.list);
+                perform(&mut self.unit, call, &mut self.lent);
                 return call;
             }
             self.plan();

@@ -1,7 +1,9 @@
 //! Two implementations side by side on the same calls.
 
-use crate::calls::{perform, Answer, Call};
+use crate::calls::{perform, Answer, Call, Lent};
+use crate::plain::{CIER, PARAMETERS};
 use crate::unit::{Snapshot, Unit};
+use std::fmt::{Debug, Display};
 
 /// What was seen after a call: the answer, the lent list, the line, the state.
 #[derive(Clone, Debug, PartialEq, Eq)]
@@ -10,33 +12,105 @@ pub struct Seen {
     pub list: Vec<u16>,
     pub line: bool,
     pub state: Snapshot,
+    /// Nothing around the lent words was touched.
+    pub intact: bool,
 }
 
-fn see(unit: &mut dyn Unit, call: Call) -> Seen {
-    let mut list = Vec::new();
-    let answer = perform(unit, call, &mut list);
+/// How much of the state is compared.
+#[derive(Clone, Copy, Debug, PartialEq, Eq)]
+pub enum Depth {
+    Whole,
+    /// Pins, registers and parameters: what calls show at once.
+    Shown,
+}
+
+pub fn see(unit: &mut dyn Unit, call: Call, depth: Depth) -> Seen {
+    let mut lent = Lent::default();
+    let answer = perform(unit, call, &mut lent);
+    let mut state = unit.snapshot().blanked();
+    if depth == Depth::Shown {
+        state.tcr1 = 0;
+        state.channels = Default::default();
+    }
     Seen {
         answer,
-        list,
+        list: lent.list().to_vec(),
         line: unit.interrupt_line(),
-        state: unit.snapshot().blanked(),
+        state,
+        intact: unit.is_intact() && lent.is_intact(),
     }
 }
 
-/// The place in the list of the first call after which the two differ, and
-/// what was seen of each. Both start from reset.
+/// What was seen of two units where they differ first, or where one of them
+/// touched what it was not lent.
+#[derive(Clone, Debug, PartialEq, Eq)]
+pub struct Difference {
+    /// The place of the call in its list.
+    pub place: usize,
+    pub one: Seen,
+    pub other: Seen,
+}
+
+/// Runs the calls on both, from reset.
 pub fn first_difference(
     one: &mut dyn Unit,
     other: &mut dyn Unit,
     calls: &[Call],
-) -> Option<(usize, Seen, Seen)> {
+    depth: Depth,
+) -> Option<Difference> {
     one.reset();
     other.reset();
-    for (i, &call) in calls.iter().enumerate() {
-        let (a, b) = (see(one, call), see(other, call));
-        if a != b {
-            return Some((i, a, b));
+    for (place, &call) in calls.iter().enumerate() {
+        let (one, other) = (see(one, call, depth), see(other, call, depth));
+        if one != other || !one.intact {
+            return Some(Difference { place, one, other });
         }
     }
     None
+}
+
+impl Difference {
+    /// One line for each thing that differs.
+    pub fn lines(&self) -> Vec<String> {
+        let (one, other) = (&self.one, &self.other);
+        let mut lines = Vec::new();
+        note(&mut lines, "answer", &one.answer, &other.answer);
+        let lists = one.list.iter().zip(&other.list).enumerate();
+        for (i, (a, b)) in lists.filter(|(_, (a, b))| a != b).take(1) {
+            note(&mut lines, format!("lent word {i}"), hex(a), hex(b));
+        }
+        note(&mut lines, "interrupt line", one.line, other.line);
+        note(&mut lines, "guard words kept", one.intact, other.intact);
+        let (one, other) = (&one.state, &other.state);
+        for address in self.addresses() {
+            let (a, b) = (one.at(address), other.at(address));
+            note(&mut lines, format!("${address:03X}"), hex(&a), hex(&b));
+        }
+        note(&mut lines, "TCR1", hex(&one.tcr1), hex(&other.tcr1));
+        note(&mut lines, "pins", hex(&one.pins), hex(&other.pins));
+        for (c, (a, b)) in one.channels.iter().zip(&other.channels).enumerate() {
+            note(&mut lines, format!("channel {c}"), a, b);
+        }
+        lines
+    }
+
+    /// The registers and parameters that differ.
+    pub fn addresses(&self) -> Vec<u16> {
+        let registers = (0..12).map(|i| CIER + 2 * i);
+        let parameters = (0..128).map(|i| PARAMETERS + 2 * i);
+        registers
+            .chain(parameters)
+            .filter(|&address| self.one.state.at(address) != self.other.state.at(address))
+            .collect()
+    }
+}
+
+fn hex(word: &u16) -> String {
+    format!("{word:04X}")
+}
+
+fn note<T: Debug + PartialEq>(lines: &mut Vec<String>, what: impl Display, one: T, other: T) {
+    if one != other {
+        lines.push(format!("{what}: {one:?} and {other:?}"));
+    }
 }

@@ -1,14 +1,22 @@
 //! Test harness for the timer unit of document 01.
 //!
-//! `plain` is a second implementation, written from the paper. `script` is the
-//! script program over any unit. `calls` makes random call lists with a use,
-//! `watch` counts what happened while they ran on the plain unit, and
-//! `compare` runs two units side by side.
+//! `plain` is a second implementation, written from the paper; `archive` is the
+//! proved one. `calls` makes random call lists with a use, `watch` counts what
+//! happened while they ran, `compare` runs two units side by side, `term3`
+//! judges a unit by term 3, `shrink` shortens a list that shows a fault, and
+//! `report` tells of it; `hunt` puts these together. `script` is the script
+//! program over any unit.
 
+pub mod archive;
 pub mod calls;
 pub mod compare;
+pub mod hunt;
+pub mod packed;
 pub mod plain;
 pub mod random;
+pub mod report;
 pub mod script;
+pub mod shrink;
+pub mod term3;
 pub mod unit;
 pub mod watch;

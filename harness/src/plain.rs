@@ -1,4 +1,5 @@
-//! The timer unit of document 01 as plain Rust, state by `&mut`.
+//! The timer unit of document 01 as plain Rust, state by `&mut`. To try the
+//! harness it can make one of the blunders that fitters have seen.
 
 use crate::unit::{ChannelView, Phase, Snapshot, Unit};
 
@@ -72,6 +73,22 @@ fn ask(answer: bool, number: u8) -> Result<(), u8> {
     }
 }
 
+/// A fault to be found. The first four are those of document 01, the last is
+/// the first board that its conditions of acceptance shut out.
+#[derive(Clone, Copy, Debug, PartialEq, Eq)]
+pub enum Blunder {
+    /// MOD_CNT counts visits to a turn, not steps.
+    CountsVisits,
+    /// TCR1 is compared with reference time plus period as plain numbers.
+    ComparesPlainly,
+    /// The motor turns at once where the target lies behind.
+    TurnsWhileFast,
+    /// A target that is written on the way is kept for after the arrival.
+    KeepsTarget,
+    /// The status bit is set when a step request is taken.
+    LightsAtRequest,
+}
+
 #[derive(Clone, Copy, Default)]
 struct Channel {
     function: u16,
@@ -82,11 +99,14 @@ struct Channel {
     level: bool,
     right: bool,
     phase: Phase,
+    /// What a blunder remembers.
+    kept: Option<u16>,
 }
 
 /// The unit. The default is the state after reset.
 #[derive(Clone, Default)]
 pub struct Plain {
+    blunder: Option<Blunder>,
     tcr1: u16,
     pins: u16,
     cier: u16,
@@ -106,7 +126,8 @@ impl Plain {
             Place::Hsrr(low) => self.gather(low, 8, |ch| ch.request),
             Place::Cpr(low) => self.gather(low, 8, |ch| ch.priority),
             Place::Cisr => self.cisr,
-            Place::Word(c, w) => self.words[c][w],
+            Place::Word(c, w) if exists(c, w) => self.words[c][w],
+            Place::Word(..) => 0,
         })
     }
 
@@ -192,6 +213,10 @@ impl Plain {
         } else {
             ask(self.is_free(c), 2)?;
         }
+        if self.makes(Blunder::KeepsTarget) && self.is_moving(c) {
+            self.channels[c].kept = Some(value);
+            return Ok(());
+        }
         self.words[c][w] = value;
         if w == CHANNEL_CONTROL {
             self.channels[c].initialised = false;
@@ -235,6 +260,9 @@ impl Plain {
         self.ask_ramp_and_target(c)?;
         self.channels[c].request = STEP;
         self.channels[c].phase = Phase::Requested;
+        if self.makes(Blunder::LightsAtRequest) {
+            self.cisr |= 1 << c;
+        }
         for g in c..=self.last(c) {
             self.channels[g].bound = true;
         }
@@ -291,7 +319,9 @@ impl Plain {
 
     /// Ticks of a step at this rate; wide, so that it can lie below zero.
     fn period(&self, c: usize, rate: u16) -> i32 {
-        let ramp = &self.words[c + 1];
+        let Some(ramp) = self.words.get(c + 1) else {
+            return 0;
+        };
         i32::from(ramp[STEP_CNTL1]) - i32::from(ramp[STEP_CNTL0]) * (1 + i32::from(rate))
     }
 }
@@ -302,7 +332,7 @@ impl Plain {
         self.tcr1 = self.tcr1.wrapping_add(1);
         for c in 0..16 {
             if let Phase::Armed(time) = self.channels[c].phase {
-                if self.is_due(time) {
+                if self.is_due(c, time) {
                     self.act(c);
                 }
             }
@@ -322,7 +352,11 @@ impl Plain {
         }
     }
 
-    fn is_due(&self, time: u16) -> bool {
+    fn is_due(&self, c: usize, time: u16) -> bool {
+        if self.makes(Blunder::ComparesPlainly) {
+            // Never, if the sum went past $FFFF.
+            return self.channels[c].kept <= Some(time) && time <= self.tcr1;
+        }
         self.tcr1.wrapping_sub(time) < 0x8000
     }
 
@@ -374,6 +408,10 @@ impl Plain {
 
     fn arrive(&mut self, c: usize) {
         self.channels[c].phase = Phase::Resting;
+        if self.makes(Blunder::KeepsTarget) {
+            let kept = self.channels[c].kept.take();
+            self.words[c][TARGET] = kept.unwrap_or(self.words[c][TARGET]);
+        }
         for g in c..=self.last(c) {
             self.channels[g].bound = false;
         }
@@ -384,9 +422,14 @@ impl Plain {
     fn turn(&mut self, c: usize, right: bool, reference: u16) {
         let to_the_right = i32::from(self.words[c][TARGET]) - i32::from(self.words[c][POSITION]);
         let ahead = if right { to_the_right } else { -to_the_right };
+        if self.makes(Blunder::CountsVisits) {
+            self.count(c, right);
+        }
         let n = self.rate_count(c);
         let rate = self.next_rate(c);
-        if ahead >= i32::from(n) {
+        if self.makes(Blunder::TurnsWhileFast) && ahead < 0 {
+            self.turn(c, !right, reference);
+        } else if ahead >= i32::from(n) {
             let faster = if rate < n { rate + 1 } else { rate };
             self.step(c, right, faster, reference);
         } else if rate > 1 {
@@ -399,19 +442,33 @@ impl Plain {
     }
 
     fn step(&mut self, c: usize, right: bool, new_rate: u16, reference: u16) {
-        let time = reference.wrapping_add(self.period(c, self.next_rate(c)) as u16);
+        let period = self.period(c, self.next_rate(c)).max(0);
+        let time = reference.wrapping_add(period as u16);
         let by = if right { 1 } else { 0xFFFF };
         self.words[c][POSITION] = self.words[c][POSITION].wrapping_add(by);
-        let count = self.mod_count(c).wrapping_add(by) & 15;
-        self.words[c][MOD_AND_RATE] = count << 8 | new_rate;
+        if !self.makes(Blunder::CountsVisits) {
+            self.count(c, right);
+        }
+        self.words[c][MOD_AND_RATE] = self.mod_count(c) << 8 | new_rate;
         self.channels[c].right = right;
         for g in c..=self.last(c) {
-            self.rotate(g, right, count == 0);
+            self.rotate(g, right, self.mod_count(c) == 0);
         }
         self.channels[c].phase = Phase::Armed(time);
-        if self.is_due(time) {
+        if self.makes(Blunder::ComparesPlainly) {
+            self.channels[c].kept = Some(reference);
+        }
+        if self.is_due(c, time) {
             self.act(c);
         }
+    }
+
+    /// MOD_CNT one up or down, modulo 16.
+    fn count(&mut self, c: usize, right: bool) {
+        let by = if right { 1 } else { 15 };
+        let count = (self.mod_count(c) + by) & 15;
+        let word = &mut self.words[c][MOD_AND_RATE];
+        *word = *word & 0xF0FF | count << 8;
     }
 
     /// One place on in the pattern of a channel, afresh from PIN_CONTROL
@@ -429,6 +486,54 @@ impl Plain {
         } else {
             rotated
         };
+    }
+}
+
+// Other units than the one after reset.
+impl Plain {
+    pub fn with(blunder: Blunder) -> Plain {
+        Plain {
+            blunder: Some(blunder),
+            ..Plain::default()
+        }
+    }
+
+    fn makes(&self, blunder: Blunder) -> bool {
+        self.blunder == Some(blunder)
+    }
+
+    /// The unit in this state, which need not have a history. Who lies in the
+    /// group of a primary on its way is bound, and so is that primary.
+    pub fn from_snapshot(state: &Snapshot) -> Plain {
+        let r = &state.registers;
+        let mut plain = Plain {
+            tcr1: state.tcr1,
+            pins: state.pins,
+            cier: r[0],
+            cisr: r[11],
+            hsqr: [r[5], r[6]],
+            ..Plain::default()
+        };
+        for c in 0..16 {
+            plain.words[c].copy_from_slice(&state.words[8 * c..8 * c + 8]);
+            let view = state.channels[c];
+            plain.channels[c] = Channel {
+                function: (r[4 - c / 4] >> (4 * (c % 4))) & 15,
+                request: (r[8 - c / 8] >> (2 * (c % 8))) & 3,
+                priority: (r[10 - c / 8] >> (2 * (c % 8))) & 3,
+                initialised: view.initialised,
+                level: view.level,
+                right: view.right,
+                phase: view.phase,
+                ..Channel::default()
+            };
+        }
+        for p in (0..16).filter(|&p| state.channels[p].phase != Phase::Resting) {
+            for c in p..=plain.last(p).max(p) {
+                plain.channels[c].bound = true;
+            }
+        }
+        plain
     }
 }
 
@@ -467,7 +572,10 @@ impl Plain {
 
 impl Unit for Plain {
     fn reset(&mut self) {
-        *self = Plain::default();
+        *self = Plain {
+            blunder: self.blunder,
+            ..Plain::default()
+        };
     }
 
     fn read(&self, address: u16) -> Result<u16, u8> {

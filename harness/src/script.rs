@@ -1,7 +1,21 @@
 //! The script program of document 01, over any unit.
 
+use crate::calls::Call;
 use crate::unit::Unit;
 use std::io::{self, BufRead, Write};
+
+/// The line that asks for this call, if there is one: a script has three
+/// digits for an address, and lends a list that is long enough.
+pub fn line(call: Call) -> Option<String> {
+    match call {
+        Call::Read(address) if address <= 0xFFF => Some(format!("R {address:03X}")),
+        Call::Write(address, value) if address <= 0xFFF => {
+            Some(format!("W {address:03X} {value:04X}"))
+        }
+        Call::Advance(n, length) if n <= 9999 && n as usize <= length => Some(format!("T {n}")),
+        _ => None,
+    }
+}
 
 /// One line that means something.
 enum Line {

@@ -30,7 +30,8 @@ pub struct ChannelView {
 pub struct Snapshot {
     /// The words at $E0A to $E20, in order.
     pub registers: [u16; 12],
-    /// The words at $F00 to $FFE, in order. Missing ones are 0.
+    /// The words at $F00 to $FFE, in order. In every history the missing ones
+    /// are 0.
     pub words: [u16; 128],
     pub tcr1: u16,
     pub pins: u16,
@@ -38,6 +39,14 @@ pub struct Snapshot {
 }
 
 impl Snapshot {
+    /// The word at an address of document 01's list.
+    pub fn at(&self, address: u16) -> u16 {
+        match usize::from(address) {
+            a @ 0xF00.. => self.words[(a - 0xF00) / 2],
+            a => self.registers[(a - 0xE0A) / 2],
+        }
+    }
+
     /// The same state with levels and directions blanked where nothing can
     /// come of them: only a group with a set match uses its levels, only a
     /// group with a set or happened match its direction.
@@ -70,4 +79,9 @@ pub trait Unit {
     fn advance(&mut self, n: u32, pins: &mut [u16]) -> Result<(), u8>;
     fn interrupt_line(&self) -> bool;
     fn snapshot(&self) -> Snapshot;
+
+    /// Nothing around the words of its state has been touched.
+    fn is_intact(&self) -> bool {
+        true
+    }
 }

@@ -1,6 +1,6 @@
 //! Counts what happens while call lists run on the plain unit.
 
-use crate::calls::{perform, Answer, Call};
+use crate::calls::{perform, Answer, Call, Lent};
 use crate::plain::{Plain, COUNT_AND_LAST, HSRR0, MOD_AND_RATE, POSITION, TARGET};
 use crate::unit::Phase;
 use std::fmt;
@@ -111,7 +111,7 @@ pub struct Watch {
     ticks: u64,
     matched: [u64; 16],
     served_next: [bool; 16],
-    list: Vec<u16>,
+    lent: Lent,
 }
 
 /// What one tick can change of a group.
@@ -135,29 +135,27 @@ impl Watch {
 
     pub fn call(&mut self, call: Call, counts: &mut Counts) {
         counts.calls += 1;
-        let mut list = std::mem::take(&mut self.list);
-        let before = self.unit.clone();
-        match call {
+        match call.ticks() {
             // A taken advance is made tick by tick, to look in between.
-            Call::Advance(n, length) if n <= 4096 && n as usize <= length => {
-                for _ in 0..n {
-                    self.tick(counts);
-                }
-            }
-            _ => match perform(&mut self.unit, call, &mut list) {
-                Answer::Refused(number) => {
-                    counts.refused[usize::from(number)] += 1;
-                    counts.words_refused += u64::from(has_several(call));
-                }
-                Answer::Word(_) => counts.words_read += 1,
-                Answer::Done => {
-                    counts.words_taken += u64::from(has_several(call));
-                    self.taken(call, &before, counts);
-                }
-            },
+            Some(n) => (0..n).for_each(|_| self.tick(counts)),
+            None => self.other(call, counts),
         }
-        self.list = list;
         counts.line_up += u64::from(self.unit.interrupt_line());
+    }
+
+    fn other(&mut self, call: Call, counts: &mut Counts) {
+        let before = self.unit.clone();
+        match perform(&mut self.unit, call, &mut self.lent) {
+            Answer::Refused(number) => {
+                counts.refused[usize::from(number)] += 1;
+                counts.words_refused += u64::from(has_several(call));
+            }
+            Answer::Word(_) => counts.words_read += 1,
+            Answer::Done => {
+                counts.words_taken += u64::from(has_several(call));
+                self.taken(call, &before, counts);
+            }
+        }
     }
 
     fn taken(&self, call: Call, before: &Plain, counts: &mut Counts) {

@@ -1,19 +1,17 @@
-//! Random call lists on the plain unit: they do what they are for, and some
-//! things that must hold after every call do hold.
+//! Things that must hold of either unit after every call of a random list.
 
-use harness::calls::{call_list, perform, Answer, Call, MARK};
-use harness::compare::first_difference;
+use harness::archive::Archive;
+use harness::calls::{call_list, perform, Answer, Call, Lent, MARK};
+use harness::compare::{first_difference, Depth};
 use harness::plain::{Plain, CHANNEL_CONTROL, COUNT_AND_LAST, MOD_AND_RATE, PIN_CONTROL};
 use harness::unit::{Phase, Snapshot, Unit};
-use harness::watch::{Counts, Watch};
 
-/// The plain unit, with each advance made of single ticks.
-#[derive(Default)]
-struct TickByTick(Plain);
+/// A unit with each advance made of single ticks.
+struct TickByTick<U>(U);
 
-impl Unit for TickByTick {
+impl<U: Unit> Unit for TickByTick<U> {
     fn reset(&mut self) {
-        self.0 = Plain::default();
+        self.0.reset();
     }
 
     fn read(&self, address: u16) -> Result<u16, u8> {
@@ -44,17 +42,6 @@ impl Unit for TickByTick {
 }
 
 #[test]
-fn lists_meet_everything() {
-    let mut counts = Counts::default();
-    for seed in 1..=60 {
-        Watch::run(&call_list(seed, 1000), &mut counts);
-    }
-    for (name, count) in counts.named() {
-        assert!(count > 0, "never: {name}");
-    }
-}
-
-#[test]
 fn same_seed_same_list() {
     assert_eq!(call_list(7, 500), call_list(7, 500));
     assert_ne!(call_list(7, 500), call_list(8, 500));
@@ -64,28 +51,39 @@ fn same_seed_same_list() {
 fn an_advance_is_its_ticks() {
     for seed in 100..120 {
         let calls = call_list(seed, 500);
-        let found = first_difference(&mut Plain::default(), &mut TickByTick::default(), &calls);
-        assert!(found.is_none(), "seed {seed}: {found:?}");
+        let mut plain = TickByTick(Plain::default());
+        let found = first_difference(&mut Plain::default(), &mut plain, &calls, Depth::Whole);
+        assert!(found.is_none(), "seed {seed}, plain: {found:?}");
+        let mut archive = TickByTick(Archive::new());
+        let found = first_difference(&mut Archive::new(), &mut archive, &calls, Depth::Whole);
+        assert!(found.is_none(), "seed {seed}, archive: {found:?}");
+    }
+}
+
+/// Nor does a read, and an advance leaves the rest of the list.
+fn refused_changes_nothing(unit: &mut dyn Unit, calls: &[Call]) {
+    let mut lent = Lent::default();
+    for &call in calls {
+        let before = unit.snapshot();
+        let answer = perform(unit, call, &mut lent);
+        let only_looks = matches!(call, Call::Read(_));
+        let mut kept = lent.list();
+        if only_looks || matches!(answer, Answer::Refused(_)) {
+            assert_eq!(before, unit.snapshot());
+        } else {
+            kept = &kept[call.ticks().unwrap_or(0) as usize..];
+        }
+        assert!(kept.iter().all(|&word| word == MARK));
+        assert!(unit.is_intact() && lent.is_intact());
     }
 }
 
 #[test]
 fn refused_calls_change_nothing() {
     for seed in 200..220 {
-        let mut unit = Plain::default();
-        let mut list = Vec::new();
-        for call in call_list(seed, 500) {
-            let before = unit.snapshot();
-            let answer = perform(&mut unit, call, &mut list);
-            let only_looks = matches!(call, Call::Read(_));
-            if only_looks || matches!(answer, Answer::Refused(_)) {
-                assert_eq!(before, unit.snapshot());
-                assert!(list.iter().all(|&word| word == MARK));
-            }
-            if let (Call::Advance(n, _), Answer::Done) = (call, answer) {
-                assert!(list[n as usize..].iter().all(|&word| word == MARK));
-            }
-        }
+        let calls = call_list(seed, 500);
+        refused_changes_nothing(&mut Plain::default(), &calls);
+        refused_changes_nothing(&mut Archive::new(), &calls);
     }
 }
 
@@ -101,9 +99,9 @@ fn in_a_group(unit: &Plain, c: usize) -> bool {
 fn groups_stay_in_order() {
     for seed in 300..340 {
         let mut unit = Plain::default();
-        let mut list = Vec::new();
+        let mut lent = Lent::default();
         for call in call_list(seed, 500) {
-            perform(&mut unit, call, &mut list);
+            perform(&mut unit, call, &mut lent);
             for c in 0..16 {
                 assert_eq!(unit.is_bound(c), in_a_group(&unit, c));
                 let view = unit.view(c);

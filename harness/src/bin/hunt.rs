@@ -1,33 +1,55 @@
-//! Runs random call lists on the plain unit and prints what happened in them.
-//! Arguments, all optional: calls, ticks, calls of one list, first seed.
+//! Runs random call lists on the archive and on the plain unit, judges the
+//! archive by term 3, and prints what occurred:
+//! `hunt [--seeds FIRST..END] [--calls CALLS_OF_A_LIST]`.
 
-use harness::calls::call_list;
-use harness::watch::{Counts, Watch};
+use harness::hunt::Hunt;
+use std::ops::Range;
 use std::process::ExitCode;
 use std::time::Instant;
 
-fn argument(place: usize, otherwise: u64) -> u64 {
-    match std::env::args().nth(place) {
-        Some(text) => text.parse().expect("a number"),
-        None => otherwise,
+struct Wanted {
+    seeds: Range<u64>,
+    calls: usize,
+}
+
+fn wanted() -> Option<Wanted> {
+    let mut wanted = Wanted {
+        seeds: 1..101,
+        calls: 1000,
+    };
+    let mut arguments = std::env::args().skip(1);
+    while let Some(name) = arguments.next() {
+        let value = arguments.next()?;
+        match name.as_str() {
+            "--seeds" => {
+                let (first, end) = value.split_once("..")?;
+                wanted.seeds = first.parse().ok()?..end.parse().ok()?;
+            }
+            "--calls" => wanted.calls = value.parse().ok()?,
+            _ => return None,
+        }
     }
+    Some(wanted)
 }
 
 fn main() -> ExitCode {
-    let calls = argument(1, 100_000);
-    let ticks = argument(2, 10_000_000);
-    let length = argument(3, 1_000).max(1);
-    let mut seed = argument(4, 1);
+    let Some(Wanted { seeds, calls }) = wanted() else {
+        eprintln!("usage: hunt [--seeds FIRST..END] [--calls CALLS_OF_A_LIST]");
+        return ExitCode::from(2);
+    };
+    println!("seeds {seeds:?}, {calls} calls each");
     let start = Instant::now();
-    let mut counts = Counts::default();
-    while counts.calls < calls || counts.ticks < ticks {
-        Watch::run(&call_list(seed, length as usize), &mut counts);
-        seed += 1;
+    let mut hunt = Hunt::default();
+    for seed in seeds {
+        if let Err(text) = hunt.list(seed, calls) {
+            println!("{text}");
+            return ExitCode::FAILURE;
+        }
     }
-    print!("{counts}");
+    print!("{hunt}");
     println!("{:>12.1} seconds", start.elapsed().as_secs_f64());
-    match counts.named().iter().find(|(_, count)| *count == 0) {
-        Some((name, _)) => {
+    match hunt.missing() {
+        Some(name) => {
             println!("never: {name}");
             ExitCode::FAILURE
         }

@@ -1,0 +1,74 @@
+//! The state in the words that a caller of the archive lends: 128 parameter
+//! words, 12 registers, TCR1, pins, 16 words of flags and 16 of times.
+
+use crate::unit::{ChannelView, Phase, Snapshot};
+
+pub const WORDS: usize = 174;
+
+const REGISTERS: usize = 128;
+const TCR1: usize = 140;
+const PINS: usize = 141;
+const FLAGS: usize = 142;
+const TIMES: usize = 158;
+
+/// The state that the words stand for. Any words stand for one: bits of the
+/// flags that mean nothing, and times that the phase has no use for, are
+/// passed over.
+pub fn unpack(words: &[u16; WORDS]) -> Snapshot {
+    let mut registers = [0; 12];
+    registers.copy_from_slice(&words[REGISTERS..TCR1]);
+    let mut parameters = [0; 128];
+    parameters.copy_from_slice(&words[..REGISTERS]);
+    let mut channels = [ChannelView::default(); 16];
+    for (c, channel) in channels.iter_mut().enumerate() {
+        *channel = channel_of(words[FLAGS + c], words[TIMES + c]);
+    }
+    Snapshot {
+        registers,
+        words: parameters,
+        tcr1: words[TCR1],
+        pins: words[PINS],
+        channels,
+    }
+}
+
+fn channel_of(flags: u16, time: u16) -> ChannelView {
+    ChannelView {
+        initialised: flags & 1 != 0,
+        level: flags & 2 != 0,
+        right: flags & 4 == 0,
+        phase: match (flags >> 3) & 3 {
+            0 => Phase::Resting,
+            1 => Phase::Requested,
+            2 => Phase::Armed(time),
+            _ => Phase::Matched(time),
+        },
+    }
+}
+
+/// The words that stand for the state, with 0 wherever nothing has a meaning.
+pub fn pack(state: &Snapshot) -> [u16; WORDS] {
+    let mut words = [0; WORDS];
+    words[..REGISTERS].copy_from_slice(&state.words);
+    words[REGISTERS..TCR1].copy_from_slice(&state.registers);
+    words[TCR1] = state.tcr1;
+    words[PINS] = state.pins;
+    for (c, channel) in state.channels.iter().enumerate() {
+        (words[FLAGS + c], words[TIMES + c]) = words_of(channel);
+    }
+    words
+}
+
+fn words_of(channel: &ChannelView) -> (u16, u16) {
+    let (phase, time) = match channel.phase {
+        Phase::Resting => (0, 0),
+        Phase::Requested => (1, 0),
+        Phase::Armed(time) => (2, time),
+        Phase::Matched(time) => (3, time),
+    };
+    let flags = u16::from(channel.initialised)
+        | u16::from(channel.level) << 1
+        | u16::from(!channel.right) << 2
+        | phase << 3;
+    (flags, time)
+}
