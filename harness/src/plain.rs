@@ -343,9 +343,7 @@ impl Plain {
                 continue;
             }
             let phase = channel.phase;
-            if channel.request != 0 {
-                self.serve_request(c);
-            }
+            self.serve_request(c);
             if let Phase::Matched(captured) = phase {
                 self.turn(c, self.channels[c].right, captured);
             }
@@ -377,12 +375,19 @@ impl Plain {
     }
 
     fn serve_request(&mut self, c: usize) {
-        let request = self.channels[c].request;
-        self.channels[c].request = 0;
-        if request == INITIALISE {
-            self.initialise(c);
-        } else if self.channels[c].phase == Phase::Requested {
-            self.test(c, self.tcr1);
+        match self.channels[c].request {
+            INITIALISE => {
+                self.channels[c].request = 0;
+                self.initialise(c);
+            }
+            STEP => {
+                self.channels[c].request = 0;
+                if self.channels[c].phase == Phase::Requested {
+                    self.test(c, self.tcr1);
+                }
+            }
+            // No history leaves 01 pending; it asks for nothing.
+            _ => {}
         }
     }
 
@@ -421,13 +426,14 @@ impl Plain {
     /// Goes on in this direction, or back to the test if slow and not ahead.
     fn turn(&mut self, c: usize, right: bool, reference: u16) {
         let to_the_right = i32::from(self.words[c][TARGET]) - i32::from(self.words[c][POSITION]);
-        let ahead = if right { to_the_right } else { -to_the_right };
+        // A distance: 0 where the target lies behind.
+        let ahead = if right { to_the_right } else { -to_the_right }.max(0);
         if self.makes(Blunder::CountsVisits) {
             self.count(c, right);
         }
         let n = self.rate_count(c);
         let rate = self.next_rate(c);
-        if self.makes(Blunder::TurnsWhileFast) && ahead < 0 {
+        if self.makes(Blunder::TurnsWhileFast) && ahead == 0 && to_the_right != 0 {
             self.turn(c, !right, reference);
         } else if ahead >= i32::from(n) {
             let faster = if rate < n { rate + 1 } else { rate };
@@ -435,7 +441,7 @@ impl Plain {
         } else if rate > 1 {
             self.step(c, right, rate - 1, reference);
         } else if ahead > 0 {
-            self.step(c, right, 1, reference);
+            self.step(c, right, rate, reference);
         } else {
             self.test(c, reference);
         }
@@ -449,7 +455,7 @@ impl Plain {
         if !self.makes(Blunder::CountsVisits) {
             self.count(c, right);
         }
-        self.words[c][MOD_AND_RATE] = self.mod_count(c) << 8 | new_rate;
+        self.words[c][MOD_AND_RATE] = self.words[c][MOD_AND_RATE] & !15 | new_rate;
         self.channels[c].right = right;
         for g in c..=self.last(c) {
             self.rotate(g, right, self.mod_count(c) == 0);
