@@ -178,10 +178,9 @@ impl Watch<'_> {
     }
 
     /// Whether a write of the position is taken; it writes what stands there.
-    fn is_unbound(&mut self, c: usize) -> bool {
+    fn is_unbound(&mut self, c: usize, position: u16) -> bool {
         let address = word_address(c, POSITION);
-        let same = self.read(address);
-        self.unit.write(address, same).is_ok()
+        self.unit.write(address, position).is_ok()
     }
 }
 
@@ -189,7 +188,7 @@ impl Watch<'_> {
 impl Watch<'_> {
     fn call(&mut self, call: Call) -> Result<(), (usize, &'static str)> {
         if let Some(n) = call.ticks() {
-            return (0..n).try_for_each(|_| self.tick());
+            return self.advance(n);
         }
         let answer = perform(self.unit, call, &mut self.lent);
         if let (Call::Write(address, value), Answer::Done) = (call, answer) {
@@ -262,6 +261,23 @@ impl Watch<'_> {
         )
     }
 
+    /// Tick by tick, as long as there is a run to watch.
+    fn advance(&mut self, n: u32) -> Result<(), (usize, &'static str)> {
+        for left in (1..=n).rev() {
+            if self.runs.iter().all(Option::is_none) {
+                perform(
+                    self.unit,
+                    Call::Advance(left, left as usize),
+                    &mut self.lent,
+                );
+                self.status = self.read(CISR);
+                break;
+            }
+            self.tick()?;
+        }
+        Ok(())
+    }
+
     fn tick(&mut self) -> Result<(), (usize, &'static str)> {
         self.unit.advance(1, &mut [0]).expect("one tick is taken");
         let status = self.read(CISR);
@@ -284,7 +300,7 @@ impl Watch<'_> {
             run.position = position;
         }
         run.rate = self.rate(c);
-        if self.is_unbound(c) {
+        if self.is_unbound(c, position) {
             run.arrival(self.word(c, TARGET), status & 1 << c != 0)?;
             self.end(&run.count);
             self.judged.arrivals += 1;

@@ -10,7 +10,7 @@ use harness::random::Random;
 use harness::unit::Unit;
 
 const SEED: u64 = 1;
-const STATES: usize = 20_000;
+const STATES: usize = 10_000;
 const CALLS_EACH: usize = 6;
 
 /// All words random, or a state of a history with some of its words changed.
