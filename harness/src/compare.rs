@@ -3,7 +3,7 @@
 use crate::calls::{perform, Answer, Call, Lent};
 use crate::plain::{CIER, PARAMETERS};
 use crate::unit::{Snapshot, Unit};
-use std::fmt::{Debug, Display};
+use std::fmt::{self, Debug, Display};
 
 /// What was seen after a call: the answer, the lent list, the line, the state.
 #[derive(Clone, Debug, PartialEq, Eq)]
@@ -27,7 +27,7 @@ pub enum Depth {
 pub fn see(unit: &mut dyn Unit, call: Call, depth: Depth) -> Seen {
     let mut lent = Lent::default();
     let answer = perform(unit, call, &mut lent);
-    let mut state = unit.snapshot().blanked();
+    let mut state = unit.snapshot();
     if depth == Depth::Shown {
         state.tcr1 = 0;
         state.channels = Default::default();
@@ -77,17 +77,17 @@ impl Difference {
         note(&mut lines, "answer", &one.answer, &other.answer);
         let lists = one.list.iter().zip(&other.list).enumerate();
         for (i, (a, b)) in lists.filter(|(_, (a, b))| a != b).take(1) {
-            note(&mut lines, format!("lent word {i}"), hex(a), hex(b));
+            note(&mut lines, format!("lent word {i}"), Hex(*a), Hex(*b));
         }
         note(&mut lines, "interrupt line", one.line, other.line);
         note(&mut lines, "guard words kept", one.intact, other.intact);
         let (one, other) = (&one.state, &other.state);
         for address in self.addresses() {
             let (a, b) = (one.at(address), other.at(address));
-            note(&mut lines, format!("${address:03X}"), hex(&a), hex(&b));
+            note(&mut lines, format!("${address:03X}"), Hex(a), Hex(b));
         }
-        note(&mut lines, "TCR1", hex(&one.tcr1), hex(&other.tcr1));
-        note(&mut lines, "pins", hex(&one.pins), hex(&other.pins));
+        note(&mut lines, "TCR1", Hex(one.tcr1), Hex(other.tcr1));
+        note(&mut lines, "pins", Hex(one.pins), Hex(other.pins));
         for (c, (a, b)) in one.channels.iter().zip(&other.channels).enumerate() {
             note(&mut lines, format!("channel {c}"), a, b);
         }
@@ -105,8 +105,14 @@ impl Difference {
     }
 }
 
-fn hex(word: &u16) -> String {
-    format!("{word:04X}")
+/// A word that is printed as four digits.
+#[derive(PartialEq)]
+struct Hex(u16);
+
+impl Debug for Hex {
+    fn fmt(&self, f: &mut fmt::Formatter) -> fmt::Result {
+        write!(f, "{:04X}", self.0)
+    }
 }
 
 fn note<T: Debug + PartialEq>(lines: &mut Vec<String>, what: impl Display, one: T, other: T) {

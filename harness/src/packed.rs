@@ -36,7 +36,7 @@ fn channel_of(flags: u16, time: u16) -> ChannelView {
     ChannelView {
         initialised: flags & 1 != 0,
         level: flags & 2 != 0,
-        right: flags & 4 == 0,
+        left: flags & 4 != 0,
         phase: match (flags >> 3) & 3 {
             0 => Phase::Resting,
             1 => Phase::Requested,
@@ -68,7 +68,7 @@ fn words_of(channel: &ChannelView) -> (u16, u16) {
     };
     let flags = u16::from(channel.initialised)
         | u16::from(channel.level) << 1
-        | u16::from(!channel.right) << 2
+        | u16::from(channel.left) << 2
         | phase << 3;
     (flags, time)
 }

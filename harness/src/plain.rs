@@ -97,7 +97,7 @@ struct Channel {
     initialised: bool,
     bound: bool,
     level: bool,
-    right: bool,
+    left: bool,
     phase: Phase,
     /// What a blunder remembers.
     kept: Option<u16>,
@@ -345,7 +345,7 @@ impl Plain {
             let phase = channel.phase;
             self.serve_request(c);
             if let Phase::Matched(captured) = phase {
-                self.turn(c, self.channels[c].right, captured);
+                self.turn(c, !self.channels[c].left, captured);
             }
         }
     }
@@ -456,7 +456,7 @@ impl Plain {
             self.count(c, right);
         }
         self.words[c][MOD_AND_RATE] = self.words[c][MOD_AND_RATE] & !15 | new_rate;
-        self.channels[c].right = right;
+        self.channels[c].left = !right;
         for g in c..=self.last(c) {
             self.rotate(g, right, self.mod_count(c) == 0);
         }
@@ -529,7 +529,7 @@ impl Plain {
                 priority: (r[10 - c / 8] >> (2 * (c % 8))) & 3,
                 initialised: view.initialised,
                 level: view.level,
-                right: view.right,
+                left: view.left,
                 phase: view.phase,
                 ..Channel::default()
             };
@@ -570,7 +570,7 @@ impl Plain {
         ChannelView {
             initialised: channel.initialised,
             level: channel.level,
-            right: channel.right,
+            left: channel.left,
             phase: channel.phase,
         }
     }

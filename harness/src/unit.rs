@@ -20,8 +20,8 @@ pub struct ChannelView {
     pub initialised: bool,
     /// Prepared pin level.
     pub level: bool,
-    /// Latest step of the group went right.
-    pub right: bool,
+    /// Latest step of the group went left.
+    pub left: bool,
     pub phase: Phase,
 }
 
@@ -45,28 +45,6 @@ impl Snapshot {
             a @ 0xF00.. => self.words[(a - 0xF00) / 2],
             a => self.registers[(a - 0xE0A) / 2],
         }
-    }
-
-    /// The same state with levels and directions blanked where nothing can
-    /// come of them: only a group with a set match uses its levels, only a
-    /// group with a set or happened match its direction.
-    pub fn blanked(mut self) -> Snapshot {
-        let mut used = 0u16;
-        for (c, channel) in self.channels.iter_mut().enumerate() {
-            match channel.phase {
-                Phase::Armed(_) => {
-                    for g in c..=usize::from(self.words[8 * c + 5] & 15) {
-                        used |= 1 << g;
-                    }
-                }
-                Phase::Matched(_) => {}
-                _ => channel.right = false,
-            }
-        }
-        for (c, channel) in self.channels.iter_mut().enumerate() {
-            channel.level &= used & 1 << c != 0;
-        }
-        self
     }
 }
 

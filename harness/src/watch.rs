@@ -119,7 +119,7 @@ pub struct Watch {
 struct Look {
     phase: Phase,
     position: u16,
-    right: bool,
+    left: bool,
     initialised: bool,
 }
 
@@ -184,7 +184,7 @@ impl Watch {
         Look {
             phase: view.phase,
             position: self.unit.word(c, POSITION),
-            right: view.right,
+            left: view.left,
             initialised: view.initialised,
         }
     }
@@ -232,9 +232,9 @@ impl Watch {
             return;
         }
         counts.fresh_patterns += u64::from(self.unit.word(c, MOD_AND_RATE) < 0x100);
-        counts.steps_right += u64::from(after.right);
-        counts.steps_left += u64::from(!after.right);
-        counts.turns += u64::from(!first && after.right != before.right);
+        counts.steps_right += u64::from(!after.left);
+        counts.steps_left += u64::from(after.left);
+        counts.turns += u64::from(!first && after.left != before.left);
         self.new_match(c, first, after, counts);
     }
 
