@@ -161,7 +161,7 @@ fn word_address(c: usize, w: usize) -> u16 {
 // What the unit shows.
 impl Watch<'_> {
     fn read(&self, address: u16) -> u16 {
-        self.unit.read(address).expect("a word of the list")
+        self.unit.read(address).unwrap_or(0)
     }
 
     fn word(&self, c: usize, w: usize) -> u16 {
@@ -223,14 +223,14 @@ impl Watch<'_> {
     fn begin(&mut self, c: usize, latest: Option<Step>, enabled: bool) {
         let (position, rate) = (self.word(c, POSITION), self.rate(c));
         let target = self.word(c, TARGET);
-        let ahead = i64::from(rate) - 1;
+        let ahead = i64::from(rate.max(1)) - 1;
         let stop = match latest {
             Some(Step { right: false, .. }) => i64::from(position) - ahead,
             _ => i64::from(position) + ahead,
         };
         let steps = ahead as u64 + stop.abs_diff(i64::from(target));
         let per_rate = u64::from(self.word(c + 1, STEP_CNTL0));
-        let longest = u64::from(self.word(c + 1, STEP_CNTL1)) - 2 * per_rate;
+        let longest = u64::from(self.word(c + 1, STEP_CNTL1)).saturating_sub(2 * per_rate);
         self.runs[c] = Some(Run {
             position,
             rate,
