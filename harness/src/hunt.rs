@@ -1,8 +1,8 @@
 //! The hunt for differences between the archive and the plain unit.
 
 use crate::archive::Archive;
-use crate::calls::call_list;
-use crate::plain::Plain;
+use crate::calls::{call_list, Call};
+use crate::plain::{Plain, CIER, CISR, PARAMETERS};
 use crate::report;
 use crate::term3::Judged;
 use crate::watch::{Counts, Watch};
@@ -16,10 +16,13 @@ pub struct Hunt {
 }
 
 impl Hunt {
-    /// Runs the list of the seed on both units and judges the archive by
-    /// term 3; the error is a text for the fitter.
+    /// Runs the list of the seed, and then a read of every word, on both units
+    /// and judges the archive by term 3; the error is a text for the fitter.
     pub fn list(&mut self, seed: u64, length: usize) -> Result<(), String> {
-        let calls = call_list(seed, length);
+        let mut calls = call_list(seed, length);
+        let registers = (CIER..=CISR).step_by(2);
+        let parameters = (PARAMETERS..=PARAMETERS + 0xFE).step_by(2);
+        calls.extend(registers.chain(parameters).map(Call::Read));
         Watch::run(&calls, &mut self.counts);
         let (mut plain, mut archive) = (Plain::default(), Archive::new());
         let fault = report::difference(&mut plain, &mut archive, &calls)
