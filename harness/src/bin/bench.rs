@@ -201,7 +201,7 @@ fn table() {
         let ours = measure(case, &mut Archive::new());
         let plain = measure(case, &mut Plain::default());
         println!(
-            "{:<46}{:>10.1}{:>10.1}{:>8.2}{:>12.1}{:>12.1}",
+            "{:<46}{:>10.2}{:>10.2}{:>8.2}{:>12.1}{:>12.1}",
             case.what,
             ours.ticks,
             plain.ticks,
