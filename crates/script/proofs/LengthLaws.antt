@@ -2,7 +2,6 @@
 use Prim.Native.Nat.{ℕ, zero, suc, _+_, _*_, _/_, _%_, _^_, _≤_, _<_}
 use mathlib.Core.Path.{_≡_, refl}
 use mathlib.Core.List.{List, _++_}
-use native.Mathlib.Nat.{pow-suc}
 use native.Mathlib.Omega.{arith}
 use lib.ListN.{length, getD, length-append}
 use lib.Dec.{ltb, eqb}
@@ -18,43 +17,26 @@ use Rattle.unit.specs.Calls.{readOf, advanceOf, pinWords}
 use Rattle.script.specs.declared.Command.{Command}
 use Rattle.script.specs.declared.Command.the-variants.{Write, Read, Ticks, Other}
 use Rattle.script.specs.Parsing.{commandOf}
-use Rattle.script.specs.Printing.{hexWord, digits, decimal, numberLine, wordLine, pinLine}
+use Rattle.text.specs.Printing.{hexWord, digits, decimal}
+use Rattle.script.specs.Printing.{numberLine, wordLine, pinLine}
 use Rattle.script.specs.Replying.{room, refusal, answered, readReply, wordBefore, pinLines, replyBy, replyTo}
 use Rattle.script.specs.Claims.{NoneLonger}
 use Rattle.unit.proofs.Tests.{and-left}
+use Rattle.text.proofs.LengthLaws.{decimal-short}
 use Rattle.script.proofs.ReplyingLaws.{good}
-
--- a number below 10 to the power k has at most k digits, and no number has more than it may
-few : (k more n : ℕ) → n < 10 ^ suc k → length (digits more n) ≤ suc k
-unfolding digits
-few k zero n h = omega arith
-few zero (suc more) n h = rw (lt-ltb n 10 h) (omega arith)
-few (suc k) (suc more) n h =
-    let d : n / 10 < 10 ^ suc k = omega (arith, pow-suc 10 (suc k)) in
-    pick-cases (λ (l : List ℕ). length l ≤ suc (suc k)) (ltb n 10)
-    (λ t. omega arith)
-    (λ t. rw length-append (omega (arith, few k more (n / 10) d)))
-
-at-most : (more n : ℕ) → length (digits more n) ≤ suc more
-unfolding digits
-at-most zero n = omega arith
-at-most (suc more) n =
-    pick-cases (λ (l : List ℕ). length l ≤ suc (suc more)) (ltb n 10)
-    (λ t. omega arith)
-    (λ t. rw length-append (omega (arith, at-most more (n / 10))))
 
 number-line : (letter n : ℕ) → length (numberLine letter n) ≡ length (decimal n) + 3
 unfolding numberLine
 number-line letter n = rw length-append (omega arith)
 
 refusal-short : (q : ℕ) → length (refusal q) ≤ 23
-unfolding refusal decimal
-refusal-short q = rw (number-line 78 q) (omega (arith, at-most 19 q))
+unfolding refusal
+refusal-short q = rw (number-line 78 q) (omega (arith, decimal-short .1 q))
 
 pin-line : (tick before w : ℕ) → length (pinLine tick before w) ≤ 28
-unfolding pinLine hexWord decimal
+unfolding pinLine hexWord
 pin-line tick before w =
-    pick-cases (λ (l : List ℕ). length l ≤ 28) (eqb w before) (λ t. omega arith) (λ t. rw length-append (omega (arith, at-most 19 tick)))
+    pick-cases (λ (l : List ℕ). length l ≤ 28) (eqb w before) (λ t. omega arith) (λ t. rw length-append (omega (arith, decimal-short .1 tick)))
 
 pin-lines : (i ticks pins : ℕ) (words : List ℕ) → length (pinLines i ticks pins words) ≤ i * 28
 unfolding pinLines
@@ -74,10 +56,10 @@ read-short (Word w) = omega arith
 read-short (NoWord q) = refusal-short q
 
 ticks-short : (s : State) (ticks n : ℕ) → (advanceOf s n room) .answer ≡ Taken → length (pinLines n ticks (s .pins) (pinWords n s) ++ numberLine 84 n) ≤ 4096 * 28 + 7
-unfolding advanceGood decimal
+unfolding advanceGood
 ticks-short s ticks n t =
     let h : n ≤ 4096 = leb-true n 4096 (and-left _ _ (good s n room _ refl t)) in
-    rw (length-append, number-line 84 n) (omega (arith, pin-lines n ticks (s .pins) (pinWords n s), few 3 19 n (omega arith)))
+    rw (length-append, number-line 84 n) (omega (arith, pin-lines n ticks (s .pins) (pinWords n s), decimal-short .0 3 n (omega arith)))
 
 by-command : (c : Command) (s : State) (ticks : ℕ) → length (replyBy c s ticks) ≤ 4096 * 28 + 7
 unfolding replyBy

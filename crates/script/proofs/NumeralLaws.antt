@@ -11,7 +11,7 @@ use lib.Dec.{ltb}
 use borrow.Author.Tests.{le-leb, lt-leb, lt-ltb, ltb-true, ltb-false}
 use Rattle.words.proofs.ChoiceLaws.{pick-cases}
 use Rattle.script.specs.Parsing.{digit, areDigits, numberAt}
-use Rattle.script.specs.Printing.{digitByte, hexWord, digits, decimal}
+use Rattle.text.specs.Printing.{digitByte, hexWord, digits, decimal}
 use Rattle.script.specs.Claims.{Numeral, HexIsWord, DecimalIsNumber}
 
 -- a digit's byte is worth it

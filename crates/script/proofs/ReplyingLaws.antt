@@ -19,10 +19,10 @@ use Rattle.script.specs.declared.Command.{Command}
 use Rattle.script.specs.declared.Command.the-variants.{Write, Read, Ticks}
 use Rattle.script.specs.declared.Replied.{Replied}
 use Rattle.script.specs.Parsing.{commandOf}
-use Rattle.script.specs.Placing.{Wrote, written}
+use Rattle.text.specs.Placing.{Wrote, written}
 use Rattle.script.specs.Printing.{wordLine, numberLine, pinLine}
 use Rattle.script.specs.Replying.{room, stateBy, counted, ticksBy, refusal, answered, readReply, wordBefore, pinLines, replyBy, stateAfter, ticksAfter, replyTo, Did}
-use Rattle.script.proofs.PlacingLaws.{also, from-front}
+use Rattle.text.proofs.PlacingLaws.{also, from-front}
 
 -- ---- pin lines
 

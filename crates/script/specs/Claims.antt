@@ -6,7 +6,7 @@ use mathlib.Core.List.{List}
 use lib.ListN.{length, getD}
 use Rattle.unit.specs.declared.State.{State}
 use Rattle.script.specs.Parsing.{areDigits, numberAt}
-use Rattle.script.specs.Printing.{hexWord, decimal}
+use Rattle.text.specs.Printing.{hexWord, decimal}
 use Rattle.script.specs.Replying.{replyTo}
 
 -- all bytes of a list are digits of the base, and as a number in it they are n

@@ -13,7 +13,7 @@ use Rattle.script.specs.declared.Command.{Command}
 use Rattle.script.specs.declared.Command.the-variants.{Write, Read, Ticks, Other}
 use Rattle.script.specs.declared.Replied.{Replied}
 use Rattle.script.specs.Parsing.{commandOf}
-use Rattle.script.specs.Placing.{Wrote}
+use Rattle.text.specs.Placing.{Wrote}
 use Rattle.script.specs.Printing.{numberLine, wordLine, pinLine}
 
 -- the words that an advance is lent: enough for the longest

@@ -2,7 +2,7 @@
 ghost use Prim.Native.Nat.{_≤_};
 ghost use lib.ListN.{length};
 ghost use Rattle.script.specs.declared.Command.the-variants.{Write, Read, Ticks, Other};
-ghost use Rattle.script.specs.Placing.{Wrote};
+ghost use Rattle.text.specs.Placing.{Wrote};
 ghost use Rattle.script.specs.Replying.{Did, pinLines, refusal};
 use crate::Replied;
 use crate::print;

@@ -2,12 +2,12 @@
 ghost use mathlib.Core.Path.{_≡_};
 ghost use Prim.Native.Nat.{min};
 ghost use lib.ListN.{length};
-ghost use Rattle.script.specs.Placing.{written};
+ghost use Rattle.text.specs.Placing.{written};
 ghost use Rattle.script.specs.Replying.{stateAfter, ticksAfter, replyTo};
 use unit::State;
 
 mod act;
-mod parse;
+pub mod parse;
 mod print;
 
 // What a line asks for.

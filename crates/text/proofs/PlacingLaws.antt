@@ -11,7 +11,7 @@ use lib.Dec.{ltb}
 use borrow.Author.Tests.{lt-ltb, le-ltb, ltb-true, ltb-false}
 use Rattle.words.specs.Choice.{pick}
 use Rattle.words.proofs.ChoiceLaws.{pick-cases}
-use Rattle.script.specs.Placing.{written, placeAfter, Wrote}
+use Rattle.text.specs.Placing.{written, placeAfter, Wrote}
 
 pub length-written : (bytes out : List ℕ) (at : ℕ) → length (written out at bytes) ≡ length out
 unfolding written
