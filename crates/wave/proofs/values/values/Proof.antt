@@ -1,0 +1,59 @@
+use borrow.Author.Needs.{needs}
+use Rattle.text.proofs.PlacingLaws.{also}
+use Rattle.wave.specs.Signals.{values}
+use Rattle.wave.proofs.values.values.Statement.{statement}
+use Rattle.wave.proofs.values.values.Tie as tie
+
+pins-requires : tie.Need-pins-requires
+pins-requires c κs = search needs
+
+cast-vector-value : tie.Need-cast-vector-value
+cast-vector-value c = search needs
+
+cast-vector-value-2 : tie.Need-cast-vector-value-2
+cast-vector-value-2 c = search needs
+
+vector-value-requires : tie.Need-vector-value-requires
+vector-value-requires c κs = search needs
+
+positions-requires : tie.Need-positions-requires
+positions-requires c κs = search needs
+
+line-of-requires : tie.Need-line-of-requires
+line-of-requires c κs = search needs
+
+line-of-requires-2 : tie.Need-line-of-requires-2
+line-of-requires-2 c κs = search needs
+
+wire-value-requires : tie.Need-wire-value-requires
+wire-value-requires c κs = search needs
+
+same-length : tie.Need-same-length
+same-length c = search needs
+
+returns : tie.Need-returns
+unfolding values
+returns c =
+    let last = c .before .before in
+    let now = last .before in
+    let old = now .before in
+    let third = old .before .before .before .before in
+    let second = third .before .before .before .before in
+    let first = second .before .before .before .before .before .before in
+    rw (← old .line-of .ensures, ← now .line-of2 .ensures)
+    (also (first .pins .ensures) (also (second .vector-value .ensures) (also (third .positions .ensures) (last .wire-value .ensures))))
+
+pub values-spec : {M : Type 1} → statement M
+values-spec =
+    tie.close
+    (tie.spec
+    pins-requires
+    cast-vector-value
+    cast-vector-value-2
+    vector-value-requires
+    positions-requires
+    line-of-requires
+    line-of-requires-2
+    wire-value-requires
+    same-length
+    returns)

@@ -1,0 +1,47 @@
+use borrow.Author.Needs.{needs}
+use Rattle.words.proofs.ChoiceLaws.{said-no, said-yes}
+use Rattle.text.proofs.PlacingLaws.{also, nothing}
+use Rattle.wave.specs.Signals.{wireLine, wireValue}
+use Rattle.wave.proofs.values.wire_value.Statement.{statement}
+use Rattle.wave.proofs.values.wire_value.Tie as tie
+
+wanted-requires : tie.Need-wanted-requires
+wanted-requires c κs = search needs
+
+returns : tie.Need-returns
+unfolding wireValue
+returns c = rw (said-no _ _ (c .before .wanted .ensures) (c .if1 .taken)) (nothing _ _)
+
+decimal-requires : tie.Need-decimal-requires
+decimal-requires c κs = search needs
+
+put-requires : tie.Need-put-requires
+put-requires c κs = search needs
+
+put-requires-2 : tie.Need-put-requires-2
+put-requires-2 c κs = search needs
+
+same-length : tie.Need-same-length
+same-length c = search needs
+
+returns-2 : tie.Need-returns-2
+unfolding wireValue wireLine
+returns-2 c =
+    let last = c .before .before in
+    let second = last .before .before .before .before in
+    let first = second .before .before .before .before in
+    let test = first .before .before in
+    rw (said-yes _ _ (test .before .wanted .ensures) (test .if1 .left))
+    (also (first .decimal .ensures) (also (second .put .ensures) (last .put2 .ensures)))
+
+pub wire-value-spec : {M : Type 1} → statement M
+wire-value-spec =
+    tie.close
+    (tie.spec
+    wanted-requires
+    returns
+    decimal-requires
+    put-requires
+    put-requires-2
+    same-length
+    returns-2)

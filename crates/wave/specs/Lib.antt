@@ -1,0 +1,4 @@
+pub mod Claims
+pub mod Drawing
+pub mod Header
+pub mod Signals

@@ -1,0 +1,79 @@
+-- What is shown of a state: the pins, TCR1, the position of each bound primary and the interrupt line. Each signal has a value and
+-- one character for its name: `a` to `p` (97 on) the pins, `!` (33) TCR1, `A` to `P` (65 on) the positions, `"` (34) the line.
+use Prim.Native.Nat.{ℕ, zero, suc, _+_, _-_}
+use mathlib.Core.Bool.{Bool, false, not, _||_}
+use mathlib.Core.List.{List, [], _∷_, _++_}
+use lib.Dec.{ltb, eqb}
+use Rattle.words.specs.Choice.{pick}
+use Rattle.words.specs.Field.{bitOf, bitValue}
+use Rattle.unit.specs.declared.State.{State}
+use Rattle.unit.specs.TheUnit.{interruptLine, stepping, position}
+use Rattle.text.specs.Ascii.{ascii}
+use Rattle.text.specs.Printing.{decimal}
+
+-- ---- values
+
+-- the level of channel c in a pin word
+unfoldable pub levelIn : ℕ → ℕ → ℕ
+levelIn w c = bitValue (bitOf w c)
+
+-- the interrupt line
+unfoldable pub lineOf : State → ℕ
+lineOf s = bitValue (interruptLine s)
+
+-- the position while c is a bound primary; 65,536, which no position is, stands for none
+unfoldable pub positionOf : State → ℕ → ℕ
+positionOf s c = pick (stepping s c) (position s c) 65536
+
+-- ---- how a value is printed
+
+-- a digit of a binary number
+unfoldable pub bitByte : Bool → ℕ
+bitByte on = pick on 49 48
+
+-- the highest n of the sixteen binary digits of a word
+unfoldable pub binary : ℕ → ℕ → List ℕ
+binary zero w = []
+binary (suc n) w = binary n w ++ (bitByte (bitOf w (15 - n)) ∷ [])
+
+-- a word, or `x` where there is none
+unfoldable pub vector : ℕ → List ℕ
+vector v = pick (ltb v 65536) (ascii "b" ++ binary 16 v) (ascii "bx")
+
+unfoldable pub wireLine : ℕ → ℕ → List ℕ
+wireLine v id = decimal v ++ (id ∷ 10 ∷ [])
+
+unfoldable pub vectorLine : ℕ → ℕ → List ℕ
+vectorLine v id = vector v ++ (32 ∷ id ∷ 10 ∷ [])
+
+-- ---- what is printed: all values, or those that differ from the ones before
+
+unfoldable pub isWanted : Bool → ℕ → ℕ → Bool
+isWanted all old v = all || not (eqb old v)
+
+unfoldable pub wireValue : Bool → ℕ → ℕ → ℕ → List ℕ
+wireValue all old v id = pick (isWanted all old v) (wireLine v id) []
+
+unfoldable pub vectorValue : Bool → ℕ → ℕ → ℕ → List ℕ
+vectorValue all old v id = pick (isWanted all old v) (vectorLine v id) []
+
+-- the first n pins
+unfoldable pub pinValues : ℕ → Bool → ℕ → ℕ → List ℕ
+pinValues zero all old w = []
+pinValues (suc c) all old w = pinValues c all old w ++ wireValue all (levelIn old c) (levelIn w c) (97 + c)
+
+-- the positions of the first n channels
+unfoldable pub positionValues : ℕ → Bool → State → State → List ℕ
+positionValues zero all old s = []
+positionValues (suc c) all old s = positionValues c all old s ++ vectorValue all (positionOf old c) (positionOf s c) (65 + c)
+
+unfoldable pub values : Bool → State → State → List ℕ
+values all old s =
+    pinValues 16 all (old .pins) (s .pins)
+    ++ (vectorValue all (old .tcr1) (s .tcr1) 33
+    ++ (positionValues 16 all old s
+    ++ wireValue all (lineOf old) (lineOf s) 34))
+
+-- what one tick changes: `#`, its number, and the values that differ
+unfoldable pub changes : ℕ → State → State → List ℕ
+changes tick old s = ascii "#" ++ (decimal tick ++ (ascii "\n" ++ values false old s))

@@ -1,0 +1,128 @@
+// The values of the signals, put into a lent buffer of any length: each function takes the place to begin at and answers the next.
+ghost use mathlib.Core.Path.{_≡_};
+ghost use Prim.Native.Nat.{_<_};
+ghost use Rattle.text.specs.Placing.{Wrote};
+ghost use Rattle.wave.specs.Signals.{levelIn, lineOf, positionOf, bitByte, binary, vector, isWanted, wireValue, vectorValue, pinValues, positionValues, values, changes};
+use access::group;
+use access::parameters;
+use unit::State;
+use words::field;
+
+// What one tick changes, since the state that was drawn last.
+pub fn changes(out: &mut [u8], at: usize, tick: u64, old: State, s: State) -> usize
+    ensures { λ r. ⌜ Wrote (now (out .entry)) at (changes tick old s) r (now (out .exit)) ⌝ }
+{
+    let a = text::put(out, at, b'#');
+    let b = text::decimal(out, a, tick);
+    let c = text::put(out, b, b'\n');
+    values(out, c, false, old, s)
+}
+
+// The values of a state: all of them, or those that differ from the old ones.
+pub fn values(out: &mut [u8], at: usize, all: bool, old: State, s: State) -> usize
+    ensures { λ r. ⌜ Wrote (now (out .entry)) at (values all old s) r (now (out .exit)) ⌝ }
+{
+    let a = pins(out, at, all, old.pins, s.pins);
+    let b = vector_value(out, a, all, old.tcr1 as u32, s.tcr1 as u32, b'!');
+    let c = positions(out, b, all, old, s);
+    wire_value(out, c, all, line_of(old), line_of(s), b'"')
+}
+
+fn pins(out: &mut [u8], at: usize, all: bool, old: u16, w: u16) -> usize
+    ensures { λ r. ⌜ Wrote (now (out .entry)) at (pinValues 16 all old w) r (now (out .exit)) ⌝ }
+{
+    let mut next = at;
+    for c in 0..16 {
+        next = wire_value(out, next, all, level_in(old, c), level_in(w, c), b'a' + c as u8);
+    }
+    next
+}
+
+fn positions(out: &mut [u8], at: usize, all: bool, old: State, s: State) -> usize
+    ensures { λ r. ⌜ Wrote (now (out .entry)) at (positionValues 16 all old s) r (now (out .exit)) ⌝ }
+{
+    let mut next = at;
+    for c in 0..16 {
+        next = vector_value(out, next, all, position_of(old, c), position_of(s, c), b'A' + c as u8);
+    }
+    next
+}
+
+fn wire_value(out: &mut [u8], at: usize, all: bool, old: u32, v: u32, id: u8) -> usize
+    ensures { λ r. ⌜ Wrote (now (out .entry)) at (wireValue all old v id) r (now (out .exit)) ⌝ }
+{
+    if !wanted(all, old, v) {
+        return at;
+    }
+    let a = text::decimal(out, at, v as u64);
+    let b = text::put(out, a, id);
+    text::put(out, b, b'\n')
+}
+
+fn vector_value(out: &mut [u8], at: usize, all: bool, old: u32, v: u32, id: u8) -> usize
+    ensures { λ r. ⌜ Wrote (now (out .entry)) at (vectorValue all old v id) r (now (out .exit)) ⌝ }
+{
+    if !wanted(all, old, v) {
+        return at;
+    }
+    let a = vector(out, at, v);
+    let b = text::put(out, a, b' ');
+    let c = text::put(out, b, id);
+    text::put(out, c, b'\n')
+}
+
+fn wanted(all: bool, old: u32, v: u32) -> bool
+    ensures { λ r. ⌜ r ≡ isWanted all old v ⌝ }
+{
+    all | (old != v)
+}
+
+fn vector(out: &mut [u8], at: usize, v: u32) -> usize
+    ensures { λ r. ⌜ Wrote (now (out .entry)) at (vector v) r (now (out .exit)) ⌝ }
+{
+    if v < 65536 {
+        let a = text::put(out, at, b'b');
+        return binary(out, a, v as u16);
+    }
+    text::bytes(out, at, b"bx")
+}
+
+// Sixteen binary digits, the highest first.
+fn binary(out: &mut [u8], at: usize, w: u16) -> usize
+    ensures { λ r. ⌜ Wrote (now (out .entry)) at (binary 16 w) r (now (out .exit)) ⌝ }
+{
+    let mut next = at;
+    for k in 0..16 {
+        next = text::put(out, next, bit_byte(field::bit(w, 15 - k)));
+    }
+    next
+}
+
+fn bit_byte(on: bool) -> u8
+    ensures { λ r. ⌜ r ≡ bitByte on ⌝ }
+{
+    if on { b'1' } else { b'0' }
+}
+
+fn level_in(w: u16, c: u16) -> u32
+    requires { ⌜ c < 16 ⌝ }
+    ensures { λ r. ⌜ r ≡ levelIn w c ⌝ }
+{
+    if field::bit(w, c) { 1 } else { 0 }
+}
+
+fn line_of(s: State) -> u32
+    ensures { λ r. ⌜ r ≡ lineOf s ⌝ }
+{
+    if tpu::interrupt_line(s) { 1 } else { 0 }
+}
+
+// The position of a bound primary. No position is 65,536.
+fn position_of(s: State, c: u16) -> u32
+    ensures { λ r. ⌜ r ≡ positionOf s c ⌝ }
+{
+    if !group::stepping(s, c) {
+        return 65536;
+    }
+    parameters::word(s, c, 2) as u32
+}
