@@ -1,2 +1,3 @@
 pub mod DrawingLaws
+pub mod LengthLaws
 pub mod SignalsLaws
