@@ -1,5 +1,5 @@
 -- No drawing is longer than MAX_DRAWN.
-use Prim.Native.Nat.{ℕ, zero, suc, _+_, _*_, _%_, _^_, _≤_}
+use Prim.Native.Nat.{ℕ, zero, suc, _+_, _-_, _*_, _%_, _^_, _≤_}
 use mathlib.Core.Path.{_≡_, refl}
 use mathlib.Core.Bool.{Bool, true, false}
 use mathlib.Core.List.{List}
@@ -27,7 +27,7 @@ use Rattle.script.specs.declared.Command.the-variants.{Write, Read, Ticks, Othe
 use Rattle.script.specs.Parsing.{commandOf}
 use Rattle.script.specs.Replying.{room}
 use Rattle.script.proofs.ReplyingLaws.{good}
-use Rattle.wave.specs.Signals.{levelIn, lineOf, positionOf, binary, vector, wireLine, vectorLine, isWanted, wireValue, vectorValue, pinValues, positionValues, values, changes}
+use Rattle.wave.specs.Signals.{positionOf, binary, vector, wireLine, vectorLine, isWanted, wireValue, vectorValue, pinValues, positionValues, values, changes}
 use Rattle.wave.specs.Header.{declaration, declarations, header}
 use Rattle.wave.specs.Drawing.{seenAt, tickChanges, refusalNote, noted, readNoted, drawingBy, drawing}
 use Rattle.wave.specs.Claims.{NoneLonger}
@@ -38,30 +38,35 @@ one-bit : (on : Bool) → bitValue on ≤ 1
 one-bit true = omega arith
 one-bit false = omega arith
 
+level-short : (on : Bool) → length (decimal (bitValue on)) ≤ 1
+level-short on = decimal-short .0 0 (bitValue on) (omega (arith, one-bit on))
+
 wire-short : (all on : Bool) (old id : ℕ) → length (wireValue all old (bitValue on) id) ≤ 3
 unfolding wireValue wireLine
 wire-short all on old id =
-    let d : length (decimal (bitValue on)) ≤ 1 = decimal-short .0 0 (bitValue on) (omega (arith, one-bit on)) in
+    let d = level-short on in
     pick-cases (λ (l : List ℕ). length l ≤ 3) (isWanted all old (bitValue on)) (λ t. rw length-append (omega arith)) (λ t. omega arith)
 
-binary-long : (n w : ℕ) → length (binary n w) ≡ n
+binary-short : (n w : ℕ) → length (binary n w) ≤ n
 unfolding binary
-binary-long zero w = refl
-binary-long (suc n) w = rw (length-append, binary-long n w) (omega arith)
+binary-short zero w = omega arith
+binary-short (suc n) w =
+    let d = level-short (bitOf w (15 - n)) in
+    rw length-append (omega (arith, binary-short n w))
 
 vector-short : (all : Bool) (old v id : ℕ) → length (vectorValue all old v id) ≤ 20
 unfolding vectorValue vectorLine vector ascii
 vector-short all old v id =
-    let d : length (vector v) ≤ 17 = pick-cases (λ (l : List ℕ). length l ≤ 17) (ltb v 65536) (λ t. rw (binary-long 16 v) (omega arith)) (λ t. omega arith) in
+    let d : length (vector v) ≤ 17 = pick-cases (λ (l : List ℕ). length l ≤ 17) (ltb v 65536) (λ t. omega (arith, binary-short 16 v)) (λ t. omega arith) in
     pick-cases (λ (l : List ℕ). length l ≤ 20) (isWanted all old v) (λ t. rw length-append (omega arith)) (λ t. omega arith)
 
 -- ---- all of them
 
 pins-short : (n : ℕ) (all : Bool) (old w : ℕ) → length (pinValues n all old w) ≤ n * 3
-unfolding pinValues levelIn
+unfolding pinValues
 pins-short zero all old w = omega arith
 pins-short (suc c) all old w =
-    let d = wire-short all (bitOf w c) (levelIn old c) (97 + c) in
+    let d = wire-short all (bitOf w c) (bitValue (bitOf old c)) (97 + c) in
     rw length-append (omega (arith, pins-short c all old w))
 
 positions-short : (n : ℕ) (all : Bool) (old s : State) → length (positionValues n all old s) ≤ n * 20
@@ -72,12 +77,12 @@ positions-short (suc c) all old s =
     rw length-append (omega (arith, positions-short c all old s))
 
 values-short : (all : Bool) (old s : State) → length (values all old s) ≤ 391
-unfolding values lineOf
+unfolding values
 values-short all old s =
     let p = pins-short 16 all (old .pins) (s .pins) in
     let t = vector-short all (old .tcr1) (s .tcr1) 33 in
     let q = positions-short 16 all old s in
-    let l = wire-short all (interruptLine s) (lineOf old) 34 in
+    let l = wire-short all (interruptLine s) (bitValue (interruptLine old)) 34 in
     simp length-append (omega arith)
 
 changes-short : (tick : ℕ) (old s : State) → length (changes tick old s) ≤ 413

@@ -1,25 +1,25 @@
--- Binary digits, one after the other.
-use Prim.Native.Nat.{ℕ, suc, _+_, _-_, _%_, _<_}
+-- A bit of a word as a level, and the test of what is printed.
+use Prim.Native.Nat.{ℕ, _%_, _<_}
 use mathlib.Core.Path.{_≡_}
-use mathlib.Core.Bool.{Bool}
-use mathlib.Core.List.{List, [], _∷_}
-use native.Mathlib.Numerals.{add-one}
+use mathlib.Core.Bool.{Bool, true, false, not, _||_}
 use native.Mathlib.Omega.{arith}
-use Rattle.words.specs.Field.{bitOf}
-use Rattle.text.specs.Placing.{Wrote}
-use Rattle.text.proofs.PlacingLaws.{also}
-use Rattle.wave.specs.Signals.{bitByte, binary}
+use lib.Dec.{eqb}
+use borrow.Author.Tests.{not-true, not-false}
+use Rattle.words.specs.Field.{bitOf, bitValue}
+use Rattle.wave.specs.Signals.{isWanted}
 
-pub next-digit :
-    (w k at m place byte : ℕ) (on : Bool) (out mid left : List ℕ) →
-    k < 16 →
-    on ≡ bitOf w ((15 - k) % 16) →
-    byte ≡ bitByte on →
-    Wrote out at (binary k w) m mid →
-    Wrote mid m (byte ∷ []) place left →
-    Wrote out at (binary (k + 1) w) place left
-unfolding binary
-next-digit w k at m place byte on out mid left h e b f g =
-    let r : (15 - k) % 16 ≡ 15 - k = omega arith in
-    let o : on ≡ bitOf w (15 - k) = rw r at e in
-    rw (add-one k, ← o, ← b) (also f g)
+pub level-of : (w i v : ℕ) (on : Bool) → i < 16 → on ≡ bitOf w (i % 16) → v ≡ bitValue on → v ≡ bitValue (bitOf w i)
+level-of w i v on h e f =
+    let r : i % 16 ≡ i = omega arith in
+    let o : on ≡ bitOf w i = rw r at e in
+    rw (← o) f
+
+-- the code's test of what is printed
+module _ (all : Bool) (old v : ℕ) where
+  pub unwanted : not (all || not (eqb old v)) ≡ true → isWanted all old v ≡ false
+  unfolding isWanted
+  unwanted t = not-true _ t
+
+  pub wanted : not (all || not (eqb old v)) ≡ false → isWanted all old v ≡ true
+  unfolding isWanted
+  wanted t = not-false _ t

@@ -11,15 +11,7 @@ use Rattle.unit.specs.TheUnit.{interruptLine, stepping, position}
 use Rattle.text.specs.Ascii.{ascii}
 use Rattle.text.specs.Printing.{decimal}
 
--- ---- values
-
--- the level of channel c in a pin word
-unfoldable pub levelIn : ℕ → ℕ → ℕ
-levelIn w c = bitValue (bitOf w c)
-
--- the interrupt line
-unfoldable pub lineOf : State → ℕ
-lineOf s = bitValue (interruptLine s)
+-- ---- values: a level is 0 or 1
 
 -- the position while c is a bound primary; 65,536, which no position is, stands for none
 unfoldable pub positionOf : State → ℕ → ℕ
@@ -27,14 +19,10 @@ positionOf s c = pick (stepping s c) (position s c) 65536
 
 -- ---- how a value is printed
 
--- a digit of a binary number
-unfoldable pub bitByte : Bool → ℕ
-bitByte on = pick on 49 48
-
 -- the highest n of the sixteen binary digits of a word
 unfoldable pub binary : ℕ → ℕ → List ℕ
 binary zero w = []
-binary (suc n) w = binary n w ++ (bitByte (bitOf w (15 - n)) ∷ [])
+binary (suc n) w = binary n w ++ decimal (bitValue (bitOf w (15 - n)))
 
 -- a word, or `x` where there is none
 unfoldable pub vector : ℕ → List ℕ
@@ -60,7 +48,7 @@ vectorValue all old v id = pick (isWanted all old v) (vectorLine v id) []
 -- the first n pins
 unfoldable pub pinValues : ℕ → Bool → ℕ → ℕ → List ℕ
 pinValues zero all old w = []
-pinValues (suc c) all old w = pinValues c all old w ++ wireValue all (levelIn old c) (levelIn w c) (97 + c)
+pinValues (suc c) all old w = pinValues c all old w ++ wireValue all (bitValue (bitOf old c)) (bitValue (bitOf w c)) (97 + c)
 
 -- the positions of the first n channels
 unfoldable pub positionValues : ℕ → Bool → State → State → List ℕ
@@ -72,7 +60,7 @@ values all old s =
     pinValues 16 all (old .pins) (s .pins)
     ++ (vectorValue all (old .tcr1) (s .tcr1) 33
     ++ (positionValues 16 all old s
-    ++ wireValue all (lineOf old) (lineOf s) 34))
+    ++ wireValue all (bitValue (interruptLine old)) (bitValue (interruptLine s)) 34))
 
 -- what one tick changes: `#`, its number, and the values that differ
 unfoldable pub changes : ℕ → State → State → List ℕ

@@ -1,9 +1,6 @@
 // Each command carried out, and what it draws put at the front of `out`.
-ghost use mathlib.Core.Path.{_≡_};
-ghost use Prim.Native.Nat.{_≤_};
 ghost use Rattle.text.specs.Placing.{Wrote};
-ghost use Rattle.unit.specs.OneTick.{tick};
-ghost use Rattle.script.specs.declared.Command.the-variants.{Write, Read, Ticks, Other};
+ghost use Rattle.script.specs.declared.Command.the-variants.{Write, Read, Ticks};
 ghost use Rattle.wave.specs.Drawing.{Drew, refusalNote};
 use crate::Drawn;
 use crate::values;
@@ -11,7 +8,14 @@ use unit::Answer;
 use unit::Reading;
 use unit::State;
 
-pub fn write(seen: State, state: State, ticks: u64, address: u16, value: u16, out: &mut [u8]) -> Drawn
+pub fn write(
+    seen: State,
+    state: State,
+    ticks: u64,
+    address: u16,
+    value: u16,
+    out: &mut [u8],
+) -> Drawn
     ensures { λ r. ⌜ Drew (Write address value) seen state ticks (now (out .entry)) r (now (out .exit)) ⌝ }
 {
     let a = tpu::write(state, address, value);
@@ -45,43 +49,25 @@ pub fn read(seen: State, state: State, ticks: u64, address: u16, out: &mut [u8])
     }
 }
 
-pub fn other(seen: State, state: State, ticks: u64, out: &mut [u8]) -> Drawn
-    ensures { λ r. ⌜ Drew Other seen state ticks (now (out .entry)) r (now (out .exit)) ⌝ }
-{
-    Drawn {
-        state,
-        seen,
-        ticks,
-        length: text::bytes(out, 0, b"$comment E $end\n"),
-    }
-}
-
 // An advance is made tick by tick, since each is drawn.
 pub fn advance(seen: State, state: State, ticks: u64, n: u16, out: &mut [u8]) -> Drawn
     ensures { λ r. ⌜ Drew (Ticks n) seen state ticks (now (out .entry)) r (now (out .exit)) ⌝ }
 {
-    if n <= 4096 {
-        return run(seen, state, ticks, n, out);
+    if 4096 < n {
+        return Drawn {
+            state,
+            seen,
+            ticks,
+            length: refusal_note(out, 10),
+        };
     }
-    Drawn {
-        state,
-        seen,
-        ticks,
-        length: refusal_note(out, 10),
-    }
-}
-
-fn run(seen: State, state: State, ticks: u64, n: u16, out: &mut [u8]) -> Drawn
-    requires { ⌜ n ≤ 4096 ⌝ }
-    ensures { λ r. ⌜ Drew (Ticks n) seen state ticks (now (out .entry)) r (now (out .exit)) ⌝ }
-{
     let mut old = seen;
     let mut s = state;
     let mut at = 0;
     for i in 0..n {
-        s = one_tick(s);
-        let tick = std::num::wrapping_add_u64(ticks, i as u64 + 1);
-        at = values::changes(out, at, tick, old, s);
+        s = tick::tick(s);
+        let count = std::num::wrapping_add_u64(ticks, i as u64 + 1);
+        at = values::changes(out, at, count, old, s);
         old = s;
     }
     Drawn {
@@ -90,14 +76,6 @@ fn run(seen: State, state: State, ticks: u64, n: u16, out: &mut [u8]) -> Drawn
         ticks: std::num::wrapping_add_u64(ticks, n as u64),
         length: at,
     }
-}
-
-fn one_tick(s: State) -> State
-    ensures { λ r. ⌜ r ≡ tick s ⌝ }
-{
-    let mut lent = [0u16; 1];
-    let a = tpu::advance(s, 1, &mut lent);
-    a.state
 }
 
 fn refusal_note(out: &mut [u8], q: u8) -> usize

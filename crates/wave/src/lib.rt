@@ -10,7 +10,7 @@ use script::Command;
 use unit::State;
 
 mod act;
-mod head;
+mod declare;
 mod values;
 
 // The state and the ticks since reset after a line, the state that was drawn last, and how many bytes the drawing took.
@@ -28,7 +28,21 @@ pub const MAX_DRAWN: usize = 4096 * 413;
 pub fn header(out: &mut [u8]) -> usize
     ensures { λ r. ⌜ (r ≡ min (length header) (length (now (out .entry)))) × (now (out .exit) ≡ written (now (out .entry)) 0 header) ⌝ }
 {
-    head::header(out)
+    let a = text::bytes(
+        out,
+        0,
+        b"$comment one unit of time is one tick of TCR1 $end\n$timescale 1 us $end\n$scope module tpu $end\n",
+    );
+    let b = declare::channels(out, a, 1, b'a', b"pin");
+    let c = text::bytes(out, b, b"$var wire 16 ! tcr1 $end\n");
+    let d = declare::channels(out, c, 16, b'A', b"position");
+    let e = text::bytes(
+        out,
+        d,
+        b"$var wire 1 \" interrupt $end\n$upscope $end\n$enddefinitions $end\n#0\n$dumpvars\n",
+    );
+    let f = values::values(out, e, true, State::RESET, State::RESET);
+    text::bytes(out, f, b"$end\n")
 }
 
 // What a line, without its end, draws, put at the front of `out`: as much of it as fits.
@@ -44,6 +58,11 @@ pub fn draw(seen: State, state: State, ticks: u64, line: &[u8], out: &mut [u8]) 
         Command::Write(address, value) => act::write(seen, state, ticks, address, value, out),
         Command::Read(address) => act::read(seen, state, ticks, address, out),
         Command::Ticks(n) => act::advance(seen, state, ticks, n, out),
-        Command::Other => act::other(seen, state, ticks, out),
+        Command::Other => Drawn {
+            state,
+            seen,
+            ticks,
+            length: text::bytes(out, 0, b"$comment E $end\n"),
+        },
     }
 }

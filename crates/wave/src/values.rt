@@ -1,8 +1,8 @@
 // The values of the signals, put into a lent buffer of any length: each function takes the place to begin at and answers the next.
 ghost use mathlib.Core.Path.{_≡_};
-ghost use Prim.Native.Nat.{_<_};
 ghost use Rattle.text.specs.Placing.{Wrote};
-ghost use Rattle.wave.specs.Signals.{levelIn, lineOf, positionOf, bitByte, binary, vector, isWanted, wireValue, vectorValue, pinValues, positionValues, values, changes};
+ghost use Rattle.words.specs.Field.{bitValue};
+ghost use Rattle.wave.specs.Signals.{positionOf, binary, vector, wireValue, vectorValue, pinValues, positionValues, values, changes};
 use access::group;
 use access::parameters;
 use unit::State;
@@ -25,7 +25,14 @@ pub fn values(out: &mut [u8], at: usize, all: bool, old: State, s: State) -> usi
     let a = pins(out, at, all, old.pins, s.pins);
     let b = vector_value(out, a, all, old.tcr1 as u32, s.tcr1 as u32, b'!');
     let c = positions(out, b, all, old, s);
-    wire_value(out, c, all, line_of(old), line_of(s), b'"')
+    wire_value(
+        out,
+        c,
+        all,
+        level(tpu::interrupt_line(old)),
+        level(tpu::interrupt_line(s)),
+        b'"',
+    )
 }
 
 fn pins(out: &mut [u8], at: usize, all: bool, old: u16, w: u16) -> usize
@@ -33,7 +40,14 @@ fn pins(out: &mut [u8], at: usize, all: bool, old: u16, w: u16) -> usize
 {
     let mut next = at;
     for c in 0..16 {
-        next = wire_value(out, next, all, level_in(old, c), level_in(w, c), b'a' + c as u8);
+        next = wire_value(
+            out,
+            next,
+            all,
+            level(field::bit(old, c)),
+            level(field::bit(w, c)),
+            b'a' + c as u8,
+        );
     }
     next
 }
@@ -43,7 +57,14 @@ fn positions(out: &mut [u8], at: usize, all: bool, old: State, s: State) -> usiz
 {
     let mut next = at;
     for c in 0..16 {
-        next = vector_value(out, next, all, position_of(old, c), position_of(s, c), b'A' + c as u8);
+        next = vector_value(
+            out,
+            next,
+            all,
+            position_of(old, c),
+            position_of(s, c),
+            b'A' + c as u8,
+        );
     }
     next
 }
@@ -51,7 +72,7 @@ fn positions(out: &mut [u8], at: usize, all: bool, old: State, s: State) -> usiz
 fn wire_value(out: &mut [u8], at: usize, all: bool, old: u32, v: u32, id: u8) -> usize
     ensures { λ r. ⌜ Wrote (now (out .entry)) at (wireValue all old v id) r (now (out .exit)) ⌝ }
 {
-    if !wanted(all, old, v) {
+    if !(all | (old != v)) {
         return at;
     }
     let a = text::decimal(out, at, v as u64);
@@ -62,19 +83,13 @@ fn wire_value(out: &mut [u8], at: usize, all: bool, old: u32, v: u32, id: u8) ->
 fn vector_value(out: &mut [u8], at: usize, all: bool, old: u32, v: u32, id: u8) -> usize
     ensures { λ r. ⌜ Wrote (now (out .entry)) at (vectorValue all old v id) r (now (out .exit)) ⌝ }
 {
-    if !wanted(all, old, v) {
+    if !(all | (old != v)) {
         return at;
     }
     let a = vector(out, at, v);
     let b = text::put(out, a, b' ');
     let c = text::put(out, b, id);
     text::put(out, c, b'\n')
-}
-
-fn wanted(all: bool, old: u32, v: u32) -> bool
-    ensures { λ r. ⌜ r ≡ isWanted all old v ⌝ }
-{
-    all | (old != v)
 }
 
 fn vector(out: &mut [u8], at: usize, v: u32) -> usize
@@ -93,28 +108,15 @@ fn binary(out: &mut [u8], at: usize, w: u16) -> usize
 {
     let mut next = at;
     for k in 0..16 {
-        next = text::put(out, next, bit_byte(field::bit(w, 15 - k)));
+        next = text::decimal(out, next, level(field::bit(w, 15 - k)) as u64);
     }
     next
 }
 
-fn bit_byte(on: bool) -> u8
-    ensures { λ r. ⌜ r ≡ bitByte on ⌝ }
+fn level(on: bool) -> u32
+    ensures { λ r. ⌜ r ≡ bitValue on ⌝ }
 {
-    if on { b'1' } else { b'0' }
-}
-
-fn level_in(w: u16, c: u16) -> u32
-    requires { ⌜ c < 16 ⌝ }
-    ensures { λ r. ⌜ r ≡ levelIn w c ⌝ }
-{
-    if field::bit(w, c) { 1 } else { 0 }
-}
-
-fn line_of(s: State) -> u32
-    ensures { λ r. ⌜ r ≡ lineOf s ⌝ }
-{
-    if tpu::interrupt_line(s) { 1 } else { 0 }
+    if on { 1 } else { 0 }
 }
 
 // The position of a bound primary. No position is 65,536.

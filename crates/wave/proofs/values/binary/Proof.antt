@@ -1,12 +1,13 @@
 use Prim.Native.Nat.{_-_, _≤_}
 use mathlib.Core.Path.{_≡_, refl, _∙_}
 use native.Mathlib.Omega.{arith}
+use native.Mathlib.Numerals.{add-one}
 use lib.ListN.{length}
 use borrow.Author.Needs.{needs}
 use Rattle.text.specs.Placing.{Wrote}
-use Rattle.text.proofs.PlacingLaws.{nothing}
+use Rattle.text.proofs.PlacingLaws.{also, nothing}
 use Rattle.wave.specs.Signals.{binary}
-use Rattle.wave.proofs.SignalsLaws.{next-digit}
+use Rattle.wave.proofs.SignalsLaws.{level-of}
 use Rattle.wave.proofs.values.binary.Statement.{statement}
 use Rattle.wave.proofs.values.binary.Tie as tie
 
@@ -27,11 +28,14 @@ sub-bit c = search needs
 bit-requires : tie.Need-bit-requires Inv-loop μ-loop
 bit-requires c κs = search needs
 
-bit-byte-requires : tie.Need-bit-byte-requires Inv-loop μ-loop
-bit-byte-requires c κs = search needs
+level-requires : tie.Need-level-requires Inv-loop μ-loop
+level-requires c κs = search needs
 
-put-requires : tie.Need-put-requires Inv-loop μ-loop
-put-requires c κs = search needs
+cast-decimal : tie.Need-cast-decimal Inv-loop μ-loop
+cast-decimal c = search needs
+
+decimal-requires : tie.Need-decimal-requires Inv-loop μ-loop
+decimal-requires c κs = search needs
 
 add-k : tie.Need-add-k Inv-loop μ-loop
 add-k c = search needs
@@ -40,16 +44,15 @@ loop-less : tie.Need-loop-less Inv-loop μ-loop
 loop-less c = search needs
 
 loop-again : tie.Need-loop-again Inv-loop μ-loop
+unfolding binary
 loop-again c =
-    let put = c .before .before in
-    let byte = put .before in
-    let bit = byte .before in
+    let call = c .before .before in
+    let level = call .before in
+    let bit = level .before in
     let at = bit .before .before .before in
-    let l = at .loop in (
-      omega arith,
-      put .put .kept .0 ∙ l .inv .1,
-      next-digit _ (l .k) _ _ _ _ _ _ _ _ (omega arith) (bit .bit .ensures) (byte .bit-byte .ensures) (l .inv .2) (put .put .ensures),
-    )
+    let l = at .loop in
+    let v = level-of _ (15 - l .k) _ _ (omega arith) (bit .bit .ensures) (level .level .ensures) in
+    (omega arith, call .decimal .kept .0 ∙ l .inv .1, rw (add-one, ← v) (also (l .inv .2) (call .decimal .ensures)))
 
 same-length : tie.Need-same-length Inv-loop μ-loop
 same-length c = c .before .loop .inv .1
@@ -66,8 +69,9 @@ binary-spec =
     loop-holds
     sub-bit
     bit-requires
-    bit-byte-requires
-    put-requires
+    level-requires
+    cast-decimal
+    decimal-requires
     add-k
     loop-less
     loop-again

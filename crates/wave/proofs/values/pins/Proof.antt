@@ -7,6 +7,7 @@ use borrow.Author.Needs.{needs}
 use Rattle.text.specs.Placing.{Wrote}
 use Rattle.text.proofs.PlacingLaws.{also, nothing}
 use Rattle.wave.specs.Signals.{pinValues}
+use Rattle.wave.proofs.SignalsLaws.{level-of}
 use Rattle.wave.proofs.values.pins.Statement.{statement}
 use Rattle.wave.proofs.values.pins.Tie as tie
 
@@ -21,11 +22,17 @@ loop-holds : tie.Need-loop-holds Inv-loop μ-loop
 unfolding pinValues
 loop-holds c = (omega arith, refl, nothing _ _)
 
-level-in-requires : tie.Need-level-in-requires Inv-loop μ-loop
-level-in-requires c κs = search needs
+bit-requires : tie.Need-bit-requires Inv-loop μ-loop
+bit-requires c κs = search needs
 
-level-in-requires-2 : tie.Need-level-in-requires-2 Inv-loop μ-loop
-level-in-requires-2 c κs = search needs
+level-requires : tie.Need-level-requires Inv-loop μ-loop
+level-requires c κs = search needs
+
+bit-requires-2 : tie.Need-bit-requires-2 Inv-loop μ-loop
+bit-requires-2 c κs = search needs
+
+level-requires-2 : tie.Need-level-requires-2 Inv-loop μ-loop
+level-requires-2 c κs = search needs
 
 cast-wire-value : tie.Need-cast-wire-value Inv-loop μ-loop
 cast-wire-value c = search needs
@@ -47,13 +54,14 @@ unfolding pinValues
 loop-again c =
     let call = c .before .before in
     let now = call .before in
-    let old = now .before in
-    let at = old .before .before .before in
-    let l = at .loop in (
-      omega arith,
-      call .wire-value .kept .0 ∙ l .inv .1,
-      rw (add-one, ← old .level-in .ensures, ← now .level-in2 .ensures) (also (l .inv .2) (call .wire-value .ensures)),
-    )
+    let bit = now .before in
+    let before = bit .before in
+    let first = before .before in
+    let at = first .before .before .before in
+    let l = at .loop in
+    let v = level-of _ (l .c) _ _ (omega arith) (first .bit .ensures) (before .level .ensures) in
+    let w = level-of _ (l .c) _ _ (omega arith) (bit .bit2 .ensures) (now .level2 .ensures) in
+    (omega arith, call .wire-value .kept .0 ∙ l .inv .1, rw (add-one, ← v, ← w) (also (l .inv .2) (call .wire-value .ensures)))
 
 same-length : tie.Need-same-length Inv-loop μ-loop
 same-length c = c .before .loop .inv .1
@@ -68,8 +76,10 @@ pins-spec =
     Inv-loop
     μ-loop
     loop-holds
-    level-in-requires
-    level-in-requires-2
+    bit-requires
+    level-requires
+    bit-requires-2
+    level-requires-2
     cast-wire-value
     add-wire-value
     wire-value-requires

@@ -19,11 +19,17 @@ vector-value-requires c κs = search needs
 positions-requires : tie.Need-positions-requires
 positions-requires c κs = search needs
 
-line-of-requires : tie.Need-line-of-requires
-line-of-requires c κs = search needs
+interrupt-line-requires : tie.Need-interrupt-line-requires
+interrupt-line-requires c κs = search needs
 
-line-of-requires-2 : tie.Need-line-of-requires-2
-line-of-requires-2 c κs = search needs
+level-requires : tie.Need-level-requires
+level-requires c κs = search needs
+
+interrupt-line-requires-2 : tie.Need-interrupt-line-requires-2
+interrupt-line-requires-2 c κs = search needs
+
+level-requires-2 : tie.Need-level-requires-2
+level-requires-2 c κs = search needs
 
 wire-value-requires : tie.Need-wire-value-requires
 wire-value-requires c κs = search needs
@@ -36,11 +42,13 @@ unfolding values
 returns c =
     let last = c .before .before in
     let now = last .before in
-    let old = now .before in
-    let third = old .before .before .before .before in
+    let line = now .before in
+    let before = line .before in
+    let first-line = before .before in
+    let third = first-line .before .before .before .before in
     let second = third .before .before .before .before in
     let first = second .before .before .before .before .before .before in
-    rw (← old .line-of .ensures, ← now .line-of2 .ensures)
+    rw (← first-line .interrupt-line .ensures, ← line .interrupt-line2 .ensures, ← before .level .ensures, ← now .level2 .ensures)
     (also (first .pins .ensures) (also (second .vector-value .ensures) (also (third .positions .ensures) (last .wire-value .ensures))))
 
 pub values-spec : {M : Type 1} → statement M
@@ -52,8 +60,10 @@ values-spec =
     cast-vector-value-2
     vector-value-requires
     positions-requires
-    line-of-requires
-    line-of-requires-2
+    interrupt-line-requires
+    level-requires
+    interrupt-line-requires-2
+    level-requires-2
     wire-value-requires
     same-length
     returns)

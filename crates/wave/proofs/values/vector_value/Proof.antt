@@ -1,16 +1,15 @@
 use borrow.Author.Needs.{needs}
-use Rattle.words.proofs.ChoiceLaws.{said-no, said-yes}
 use Rattle.text.proofs.PlacingLaws.{also, nothing}
 use Rattle.wave.specs.Signals.{vectorLine, vectorValue}
+use Rattle.wave.proofs.SignalsLaws.{unwanted, wanted}
 use Rattle.wave.proofs.values.vector_value.Statement.{statement}
 use Rattle.wave.proofs.values.vector_value.Tie as tie
 
-wanted-requires : tie.Need-wanted-requires
-wanted-requires c κs = search needs
-
 returns : tie.Need-returns
 unfolding vectorValue
-returns c = rw (said-no _ _ (c .before .wanted .ensures) (c .if1 .taken)) (nothing _ _)
+returns c =
+    let a = c .before .before .args in
+    rw (unwanted (a .all) (a .old) (a .v) (c .if1 .taken)) (nothing _ _)
 
 vector-requires : tie.Need-vector-requires
 vector-requires c κs = search needs
@@ -35,14 +34,14 @@ returns-2 c =
     let second = third .before .before .before .before in
     let first = second .before .before .before .before in
     let test = first .before .before in
-    rw (said-yes _ _ (test .before .wanted .ensures) (test .if1 .left))
+    let a = test .before .before .args in
+    rw (wanted (a .all) (a .old) (a .v) (test .if1 .left))
     (also (first .vector .ensures) (also (second .put .ensures) (also (third .put2 .ensures) (last .put3 .ensures))))
 
 pub vector-value-spec : {M : Type 1} → statement M
 vector-value-spec =
     tie.close
     (tie.spec
-    wanted-requires
     returns
     vector-requires
     put-requires

@@ -1,16 +1,15 @@
 use borrow.Author.Needs.{needs}
-use Rattle.words.proofs.ChoiceLaws.{said-no, said-yes}
 use Rattle.text.proofs.PlacingLaws.{also, nothing}
 use Rattle.wave.specs.Signals.{wireLine, wireValue}
+use Rattle.wave.proofs.SignalsLaws.{unwanted, wanted}
 use Rattle.wave.proofs.values.wire_value.Statement.{statement}
 use Rattle.wave.proofs.values.wire_value.Tie as tie
 
-wanted-requires : tie.Need-wanted-requires
-wanted-requires c κs = search needs
-
 returns : tie.Need-returns
 unfolding wireValue
-returns c = rw (said-no _ _ (c .before .wanted .ensures) (c .if1 .taken)) (nothing _ _)
+returns c =
+    let a = c .before .before .args in
+    rw (unwanted (a .all) (a .old) (a .v) (c .if1 .taken)) (nothing _ _)
 
 decimal-requires : tie.Need-decimal-requires
 decimal-requires c κs = search needs
@@ -31,17 +30,10 @@ returns-2 c =
     let second = last .before .before .before .before in
     let first = second .before .before .before .before in
     let test = first .before .before in
-    rw (said-yes _ _ (test .before .wanted .ensures) (test .if1 .left))
+    let a = test .before .before .args in
+    rw (wanted (a .all) (a .old) (a .v) (test .if1 .left))
     (also (first .decimal .ensures) (also (second .put .ensures) (last .put2 .ensures)))
 
 pub wire-value-spec : {M : Type 1} → statement M
 wire-value-spec =
-    tie.close
-    (tie.spec
-    wanted-requires
-    returns
-    decimal-requires
-    put-requires
-    put-requires-2
-    same-length
-    returns-2)
+    tie.close (tie.spec returns decimal-requires put-requires put-requires-2 same-length returns-2)

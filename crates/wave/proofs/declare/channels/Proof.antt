@@ -7,8 +7,8 @@ use borrow.Author.Needs.{needs}
 use Rattle.text.specs.Placing.{Wrote}
 use Rattle.text.proofs.PlacingLaws.{also, nothing}
 use Rattle.wave.specs.Header.{declarations}
-use Rattle.wave.proofs.head.declarations.Statement.{statement}
-use Rattle.wave.proofs.head.declarations.Tie as tie
+use Rattle.wave.proofs.declare.channels.Statement.{statement}
+use Rattle.wave.proofs.declare.channels.Tie as tie
 
 abbrev Inv-loop : tie.InvT-loop
 Inv-loop out₀ at width first name next₀ c₀ out next c =
@@ -21,14 +21,14 @@ loop-holds : tie.Need-loop-holds Inv-loop μ-loop
 unfolding declarations
 loop-holds c = (omega arith, refl, nothing _ _)
 
-add-declaration : tie.Need-add-declaration Inv-loop μ-loop
-add-declaration c = search needs
+add-signal : tie.Need-add-signal Inv-loop μ-loop
+add-signal c = search needs
 
-cast-declaration : tie.Need-cast-declaration Inv-loop μ-loop
-cast-declaration c = search needs
+cast-signal : tie.Need-cast-signal Inv-loop μ-loop
+cast-signal c = search needs
 
-declaration-requires : tie.Need-declaration-requires Inv-loop μ-loop
-declaration-requires c κs = search needs
+signal-requires : tie.Need-signal-requires Inv-loop μ-loop
+signal-requires c κs = search needs
 
 add-c : tie.Need-add-c Inv-loop μ-loop
 add-c c = search needs
@@ -42,7 +42,7 @@ loop-again c =
     let call = c .before .before in
     let at = call .before .before .before in
     let l = at .loop in
-    (omega arith, call .declaration .kept .0 ∙ l .inv .1, rw add-one (also (l .inv .2) (call .declaration .ensures)))
+    (omega arith, call .signal .kept .0 ∙ l .inv .1, rw add-one (also (l .inv .2) (call .signal .ensures)))
 
 same-length : tie.Need-same-length Inv-loop μ-loop
 same-length c = c .before .loop .inv .1
@@ -50,16 +50,16 @@ same-length c = c .before .loop .inv .1
 returns : tie.Need-returns Inv-loop μ-loop
 returns c = let e : c .before .loop .c ≡ 16 = omega arith in rw (← e) (c .before .loop .inv .2)
 
-pub declarations-spec : {M : Type 1} → statement M
-declarations-spec =
+pub channels-spec : {M : Type 1} → statement M
+channels-spec =
     tie.close
     (tie.spec
     Inv-loop
     μ-loop
     loop-holds
-    add-declaration
-    cast-declaration
-    declaration-requires
+    add-signal
+    cast-signal
+    signal-requires
     add-c
     loop-less
     loop-again

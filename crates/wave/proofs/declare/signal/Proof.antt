@@ -2,8 +2,8 @@ use borrow.Author.Needs.{needs}
 use Rattle.text.specs.Ascii.{ascii}
 use Rattle.text.proofs.PlacingLaws.{also}
 use Rattle.wave.specs.Header.{declaration}
-use Rattle.wave.proofs.head.declaration.Statement.{statement}
-use Rattle.wave.proofs.head.declaration.Tie as tie
+use Rattle.wave.proofs.declare.signal.Statement.{statement}
+use Rattle.wave.proofs.declare.signal.Tie as tie
 
 slice-aggregate-bytes : tie.Need-slice-aggregate-bytes
 slice-aggregate-bytes c = search needs
@@ -57,8 +57,8 @@ returns c =
     (also (sixth .bytes2 .ensures)
     (also (seventh .decimal2 .ensures) (last .bytes3 .ensures)))))))
 
-pub declaration-spec : {M : Type 1} → statement M
-declaration-spec =
+pub signal-spec : {M : Type 1} → statement M
+signal-spec =
     tie.close
     (tie.spec
     slice-aggregate-bytes
