@@ -7,7 +7,7 @@ use libc::STDOUT_FILENO;
 use unit::State;
 
 // The longest drawing, and room for short ones that wait, so that the output is written seldom.
-const ROOM: usize = wave::MAX_DRAWN + 65536;
+const ROOM: usize = drawing::MAX_DRAWN + 65536;
 
 // Where the program stands between two bytes of input.
 struct Session {
@@ -140,7 +140,7 @@ fn line_done(s: Session, line: &[u8], out: &mut [u8]) -> Session
     requires { ⌜ (s .kept ≤ length (now line)) × (s .waiting ≤ length (now out)) ⌝ }
     ensures { λ r. ⌜ (r .kept ≡ 0) × (r .waiting ≤ length (now (out .entry))) ⌝ }
 {
-    if out.len() - s.waiting < wave::MAX_DRAWN {
+    if out.len() - s.waiting < drawing::MAX_DRAWN {
         let t = written(s, out);
         return drawn(t, line, out);
     }
@@ -153,7 +153,7 @@ fn drawn(s: Session, line: &[u8], out: &mut [u8]) -> Session
 {
     let kept = s.kept;
     let waiting = s.waiting;
-    let r = wave::draw(s.seen, s.state, s.ticks, &line[..kept], &mut out[waiting..]);
+    let r = drawing::draw(s.seen, s.state, s.ticks, &line[..kept], &mut out[waiting..]);
     let state = r.state;
     let seen = r.seen;
     Session {

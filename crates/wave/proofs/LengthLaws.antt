@@ -1,4 +1,4 @@
--- No drawing is longer than MAX_DRAWN.
+-- How long the printed bytes are.
 use Prim.Native.Nat.{ℕ, zero, suc, _+_, _-_, _*_, _%_, _^_, _≤_}
 use mathlib.Core.Path.{_≡_, refl}
 use mathlib.Core.Bool.{Bool, true, false}
@@ -6,31 +6,16 @@ use mathlib.Core.List.{List}
 use native.Mathlib.Omega.{arith}
 use lib.Dec.{ltb}
 use lib.ListN.{length, length-append}
-use borrow.Author.Tests.{leb-true}
 use Rattle.words.specs.Field.{bitOf, bitValue}
 use Rattle.words.proofs.ChoiceLaws.{pick-cases}
 use Rattle.unit.specs.declared.State.{State}
-use Rattle.unit.specs.declared.Reading.{Reading}
-use Rattle.unit.specs.declared.Reading.the-variants.{Word, Refused as NoWord}
-use Rattle.unit.specs.declared.Answer.{Answer}
-use Rattle.unit.specs.declared.Answer.the-variants.{Taken, Refused}
-use Rattle.unit.specs.Gate.{advanceGood}
 use Rattle.unit.specs.TheUnit.{resetState, interruptLine}
-use Rattle.unit.specs.Calls.{readOf}
-use Rattle.unit.specs.OneTick.{afterTicks}
-use Rattle.unit.proofs.Tests.{and-left}
 use Rattle.text.specs.Ascii.{ascii}
 use Rattle.text.specs.Printing.{decimal}
 use Rattle.text.proofs.LengthLaws.{decimal-short}
-use Rattle.script.specs.declared.Command.{Command}
-use Rattle.script.specs.declared.Command.the-variants.{Write, Read, Ticks, Other}
-use Rattle.script.specs.Parsing.{commandOf}
-use Rattle.script.specs.Replying.{room}
-use Rattle.script.proofs.ReplyingLaws.{good}
 use Rattle.wave.specs.Signals.{positionOf, binary, vector, wireLine, vectorLine, isWanted, wireValue, vectorValue, pinValues, positionValues, values, changes}
 use Rattle.wave.specs.Header.{declaration, declarations, header}
-use Rattle.wave.specs.Drawing.{seenAt, tickChanges, refusalNote, noted, readNoted, drawingBy, drawing}
-use Rattle.wave.specs.Claims.{NoneLonger}
+use Rattle.wave.specs.Claims.{Short}
 
 -- ---- one signal
 
@@ -89,40 +74,6 @@ changes-short : (tick : ℕ) (old s : State) → length (changes tick old s) ≤
 unfolding changes ascii
 changes-short tick old s = simp length-append (omega (arith, decimal-short .1 tick, values-short false old s))
 
-ticks-short : (n : ℕ) (seen s : State) (ticks : ℕ) → length (tickChanges n seen s ticks) ≤ n * 413
-unfolding tickChanges
-ticks-short zero seen s ticks = omega arith
-ticks-short (suc i) seen s ticks =
-    let d = changes-short ((ticks + suc i) % 2 ^ 64) (seenAt i seen s) (afterTicks (suc i) s) in
-    rw length-append (omega (arith, ticks-short i seen s ticks))
-
--- ---- a line
-
-note-short : (q : ℕ) → length (refusalNote q) ≤ 4096 * 413
-unfolding refusalNote ascii
-note-short q = simp length-append (omega (arith, decimal-short .1 q))
-
-noted-short : (x : Answer) (bytes : List ℕ) → (x ≡ Taken → length bytes ≤ 4096 * 413) → length (noted x bytes) ≤ 4096 * 413
-unfolding noted
-noted-short Taken bytes f = f refl
-noted-short (Refused q) bytes f = note-short q
-
-read-short : (x : Reading) → length (readNoted x) ≤ 4096 * 413
-unfolding readNoted
-read-short (Word w) = omega arith
-read-short (NoWord q) = note-short q
-
-by-command : (c : Command) (seen s : State) (ticks : ℕ) → length (drawingBy c seen s ticks) ≤ 4096 * 413
-unfolding drawingBy advanceGood ascii
-by-command (Write a v) seen s ticks = noted-short _ _ (λ t. omega arith)
-by-command (Read a) seen s ticks = read-short (readOf s a)
-by-command (Ticks n) seen s ticks =
-    noted-short _ _
-    (λ t.
-    let h : n ≤ 4096 = leb-true n 4096 (and-left _ _ (good s n room _ refl t)) in
-    omega (arith, ticks-short n seen s ticks))
-by-command Other seen s ticks = omega arith
-
 -- ---- the header
 
 declaration-short : (width id c : ℕ) (name : List ℕ) → length name ≤ 8 → length (declaration width id name c) ≤ 67
@@ -136,7 +87,7 @@ declarations-short (suc c) width first name h =
     let d = declaration-short width (first + c) c name h in
     rw length-append (omega (arith, declarations-short c width first name h))
 
-header-short : length header ≤ 4096 * 413
+header-short : length header ≤ 3000
 unfolding header ascii
 header-short =
     let p = declarations-short 16 1 97 (ascii "pin") (omega arith) in
@@ -144,6 +95,5 @@ header-short =
     let v = values-short true resetState resetState in
     simp length-append (omega arith)
 
-pub none-longer : NoneLonger
-unfolding drawing
-none-longer = (λ seen s ticks line. by-command (commandOf line) seen s ticks, header-short)
+pub short : Short
+short = (changes-short, header-short)

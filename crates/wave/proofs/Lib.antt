@@ -1,3 +1,2 @@
-pub mod DrawingLaws
 pub mod LengthLaws
 pub mod SignalsLaws

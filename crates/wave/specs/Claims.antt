@@ -1,13 +1,10 @@
--- What holds of the drawn bytes, beside what they are.
-use Prim.Native.Nat.{ℕ, _*_, _≤_}
-use mathlib.Core.List.{List}
+-- What holds of the printed bytes, beside what they are.
+use Prim.Native.Nat.{ℕ, _≤_}
 use lib.ListN.{length}
 use Rattle.unit.specs.declared.State.{State}
+use Rattle.wave.specs.Signals.{changes}
 use Rattle.wave.specs.Header.{header}
-use Rattle.wave.specs.Drawing.{drawing}
 
--- neither a line's drawing nor the header is longer than 4,096 ticks of 413 bytes, so a buffer of that size (MAX_DRAWN) cuts none
-abbrev pub NoneLonger : Type 0
-NoneLonger =
-    ((seen s : State) (ticks : ℕ) (line : List ℕ) → length (drawing seen s ticks line) ≤ 4096 * 413)
-    × (length header ≤ 4096 * 413)
+-- how long the changes of one tick and the header can be
+abbrev pub Short : Type 0
+Short = ((tick : ℕ) (old s : State) → length (changes tick old s) ≤ 413) × (length header ≤ 3000)

@@ -1,4 +1,3 @@
 pub mod Claims
-pub mod Drawing
 pub mod Header
 pub mod Signals

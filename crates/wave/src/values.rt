@@ -2,21 +2,11 @@
 ghost use mathlib.Core.Path.{_≡_};
 ghost use Rattle.text.specs.Placing.{Wrote};
 ghost use Rattle.words.specs.Field.{bitValue};
-ghost use Rattle.wave.specs.Signals.{positionOf, binary, vector, wireValue, vectorValue, pinValues, positionValues, values, changes};
+ghost use Rattle.wave.specs.Signals.{positionOf, binary, vector, wireValue, vectorValue, pinValues, positionValues, values};
 use access::group;
 use access::parameters;
 use unit::State;
 use words::field;
-
-// What one tick changes, since the state that was drawn last.
-pub fn changes(out: &mut [u8], at: usize, tick: u64, old: State, s: State) -> usize
-    ensures { λ r. ⌜ Wrote (now (out .entry)) at (changes tick old s) r (now (out .exit)) ⌝ }
-{
-    let a = text::put(out, at, b'#');
-    let b = text::decimal(out, a, tick);
-    let c = text::put(out, b, b'\n');
-    values(out, c, false, old, s)
-}
 
 // The values of a state: all of them, or those that differ from the old ones.
 pub fn values(out: &mut [u8], at: usize, all: bool, old: State, s: State) -> usize

@@ -1,8 +1,8 @@
 use borrow.Author.Needs.{needs}
 use Rattle.text.specs.Ascii.{ascii}
-use Rattle.wave.proofs.DrawingLaws.{other, by-line}
-use Rattle.wave.proofs.draw.Statement.{statement}
-use Rattle.wave.proofs.draw.Tie as tie
+use Rattle.drawing.proofs.DrawingLaws.{other, by-line}
+use Rattle.drawing.proofs.draw.Statement.{statement}
+use Rattle.drawing.proofs.draw.Tie as tie
 
 command-requires : tie.Need-command-requires
 command-requires c κs = search needs

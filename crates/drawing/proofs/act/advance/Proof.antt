@@ -6,10 +6,10 @@ use borrow.Author.Needs.{needs}
 use Rattle.text.specs.Placing.{Wrote}
 use Rattle.unit.specs.OneTick.{afterTicks}
 use Rattle.text.proofs.PlacingLaws.{nothing}
-use Rattle.wave.specs.Drawing.{seenAt, tickChanges}
-use Rattle.wave.proofs.DrawingLaws.{next-changes, next-state, next-seen, advance-taken, advance-refused}
-use Rattle.wave.proofs.act.advance.Statement.{statement}
-use Rattle.wave.proofs.act.advance.Tie as tie
+use Rattle.drawing.specs.Drawing.{seenAt, tickChanges}
+use Rattle.drawing.proofs.DrawingLaws.{next-changes, next-state, next-seen, advance-taken, advance-refused}
+use Rattle.drawing.proofs.act.advance.Statement.{statement}
+use Rattle.drawing.proofs.act.advance.Tie as tie
 
 abbrev Inv-loop : tie.InvT-loop
 Inv-loop ticks n out₀ old₀ s₀ at₀ i₀ out old s at i =

@@ -1,9 +1,8 @@
 // Each command carried out, and what it draws put at the front of `out`.
 ghost use Rattle.text.specs.Placing.{Wrote};
 ghost use Rattle.script.specs.declared.Command.the-variants.{Write, Read, Ticks};
-ghost use Rattle.wave.specs.Drawing.{Drew, refusalNote};
+ghost use Rattle.drawing.specs.Drawing.{Drew, refusalNote};
 use crate::Drawn;
-use crate::values;
 use unit::Answer;
 use unit::Reading;
 use unit::State;
@@ -67,7 +66,7 @@ pub fn advance(seen: State, state: State, ticks: u64, n: u16, out: &mut [u8]) ->
     for i in 0..n {
         s = tick::tick(s);
         let count = std::num::wrapping_add_u64(ticks, i as u64 + 1);
-        at = values::changes(out, at, count, old, s);
+        at = wave::changes(out, at, count, old, s);
         old = s;
     }
     Drawn {

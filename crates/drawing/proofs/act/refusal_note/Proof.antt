@@ -1,9 +1,9 @@
 use borrow.Author.Needs.{needs}
 use Rattle.text.specs.Ascii.{ascii}
 use Rattle.text.proofs.PlacingLaws.{also}
-use Rattle.wave.specs.Drawing.{refusalNote}
-use Rattle.wave.proofs.act.refusal_note.Statement.{statement}
-use Rattle.wave.proofs.act.refusal_note.Tie as tie
+use Rattle.drawing.specs.Drawing.{refusalNote}
+use Rattle.drawing.proofs.act.refusal_note.Statement.{statement}
+use Rattle.drawing.proofs.act.refusal_note.Tie as tie
 
 slice-aggregate-bytes : tie.Need-slice-aggregate-bytes
 slice-aggregate-bytes c = search needs

@@ -21,9 +21,9 @@ use Rattle.script.specs.declared.Command.{Command}
 use Rattle.script.specs.declared.Command.the-variants.{Write, Read, Ticks, Other}
 use Rattle.script.specs.Parsing.{commandOf}
 use Rattle.script.specs.Replying.{room, stateBy, counted, ticksBy, stateAfter, ticksAfter}
-use Rattle.wave.specs.declared.Drawn.{Drawn}
+use Rattle.drawing.specs.declared.Drawn.{Drawn}
 use Rattle.wave.specs.Signals.{changes}
-use Rattle.wave.specs.Drawing.{seenAt, tickChanges, refusalNote, noted, readNoted, drawingBy, seenIf, seenBy, drawing, seenAfter, Drew}
+use Rattle.drawing.specs.Drawing.{seenAt, tickChanges, refusalNote, noted, readNoted, drawingBy, seenIf, seenBy, drawing, seenAfter, Drew}
 
 -- ---- ticks
 

@@ -2,8 +2,8 @@ use borrow.Author.Needs.{needs}
 use Rattle.text.specs.Ascii.{ascii}
 use Rattle.text.proofs.PlacingLaws.{also}
 use Rattle.wave.specs.Signals.{changes}
-use Rattle.wave.proofs.values.changes.Statement.{statement}
-use Rattle.wave.proofs.values.changes.Tie as tie
+use Rattle.wave.proofs.changes.Statement.{statement}
+use Rattle.wave.proofs.changes.Tie as tie
 
 put-requires : tie.Need-put-requires
 put-requires c κs = search needs

@@ -1,7 +1,7 @@
 use borrow.Author.Needs.{needs}
-use Rattle.wave.proofs.DrawingLaws.{read-word, read-refused}
-use Rattle.wave.proofs.act.read.Statement.{statement}
-use Rattle.wave.proofs.act.read.Tie as tie
+use Rattle.drawing.proofs.DrawingLaws.{read-word, read-refused}
+use Rattle.drawing.proofs.act.read.Statement.{statement}
+use Rattle.drawing.proofs.act.read.Tie as tie
 
 read-requires : tie.Need-read-requires
 read-requires c κs = search needs

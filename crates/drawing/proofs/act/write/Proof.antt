@@ -1,7 +1,7 @@
 use borrow.Author.Needs.{needs}
-use Rattle.wave.proofs.DrawingLaws.{write-taken, write-refused}
-use Rattle.wave.proofs.act.write.Statement.{statement}
-use Rattle.wave.proofs.act.write.Tie as tie
+use Rattle.drawing.proofs.DrawingLaws.{write-taken, write-refused}
+use Rattle.drawing.proofs.act.write.Statement.{statement}
+use Rattle.drawing.proofs.act.write.Tie as tie
 
 write-requires : tie.Need-write-requires
 write-requires c κs = search needs

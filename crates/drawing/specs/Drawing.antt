@@ -16,8 +16,8 @@ use Rattle.script.specs.declared.Command.{Command}
 use Rattle.script.specs.declared.Command.the-variants.{Write, Read, Ticks, Other}
 use Rattle.script.specs.Parsing.{commandOf}
 use Rattle.script.specs.Replying.{room, stateBy, ticksBy}
-use Rattle.wave.specs.declared.Drawn.{Drawn}
+use Rattle.drawing.specs.declared.Drawn.{Drawn}
 use Rattle.wave.specs.Signals.{changes}
 
 -- ---- ticks
 
