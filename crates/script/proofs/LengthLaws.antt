@@ -1,11 +1,11 @@
 -- No reply is longer than MAX_REPLY.
-use Prim.Native.Nat.{ℕ, zero, suc, _+_, _*_, _/_, _%_, _^_, _≤_, _<_}
+use Prim.Native.Nat.{ℕ, zero, suc, _+_, _*_, _%_, _^_, _≤_}
 use mathlib.Core.Path.{_≡_, refl}
 use mathlib.Core.List.{List, _++_}
 use native.Mathlib.Omega.{arith}
 use lib.ListN.{length, getD, length-append}
-use lib.Dec.{ltb, eqb}
-use borrow.Author.Tests.{lt-ltb, leb-true}
+use lib.Dec.{eqb}
+use borrow.Author.Tests.{leb-true}
 use Rattle.words.proofs.ChoiceLaws.{pick-cases}
 use Rattle.unit.specs.declared.State.{State}
 use Rattle.unit.specs.declared.Reading.{Reading}
@@ -17,7 +17,7 @@ use Rattle.unit.specs.Calls.{readOf, advanceOf, pinWords}
 use Rattle.script.specs.declared.Command.{Command}
 use Rattle.script.specs.declared.Command.the-variants.{Write, Read, Ticks, Other}
 use Rattle.script.specs.Parsing.{commandOf}
-use Rattle.text.specs.Printing.{hexWord, digits, decimal}
+use Rattle.text.specs.Printing.{hexWord, decimal}
 use Rattle.script.specs.Printing.{numberLine, wordLine, pinLine}
 use Rattle.script.specs.Replying.{room, refusal, answered, readReply, wordBefore, pinLines, replyBy, replyTo}
 use Rattle.script.specs.Claims.{NoneLonger}
