@@ -34,25 +34,30 @@ tickChanges (suc i) seen s ticks =
 
 -- ---- what the script program answers with `N` or `E` is kept as a comment
 
+-- the number of the question that said no
 unfoldable pub refusalNote : ℕ → List ℕ
 refusalNote q = ascii "$comment N " ++ (decimal q ++ ascii " $end\n")
 
+-- what a write or an advance draws, by its answer
 unfoldable pub noted : Answer → List ℕ → List ℕ
 noted Taken bytes = bytes
 noted (Refused q) bytes = refusalNote q
 
+-- a read draws nothing unless it is refused
 unfoldable pub readNoted : Reading → List ℕ
 readNoted (Word w) = []
 readNoted (NoWord q) = refusalNote q
 
 -- ---- by command
 
+-- the bytes
 unfoldable pub drawingBy : Command → State → State → ℕ → List ℕ
 drawingBy (Write a v) seen s ticks = noted ((writeOf s a v) .answer) []
 drawingBy (Read a) seen s ticks = readNoted (readOf s a)
 drawingBy (Ticks n) seen s ticks = noted ((advanceOf s n room) .answer) (tickChanges n seen s ticks)
 drawingBy Other seen s ticks = ascii "$comment E $end\n"
 
+-- a refused advance draws no state
 unfoldable pub seenIf : Answer → State → State → State
 seenIf Taken now seen = now
 seenIf (Refused q) now seen = seen
@@ -66,9 +71,11 @@ seenBy Other seen s = seen
 
 -- ---- by the line
 
+-- the bytes
 unfoldable pub drawing : State → State → ℕ → List ℕ → List ℕ
 drawing seen s ticks line = drawingBy (commandOf line) seen s ticks
 
+-- the state drawn last
 unfoldable pub seenAfter : State → State → List ℕ → State
 seenAfter seen s line = seenBy (commandOf line) seen s
 

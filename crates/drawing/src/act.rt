@@ -52,7 +52,7 @@ pub fn read(seen: State, state: State, ticks: u64, address: u16, out: &mut [u8])
 pub fn advance(seen: State, state: State, ticks: u64, n: u16, out: &mut [u8]) -> Drawn
     ensures { λ r. ⌜ Drew (Ticks n) seen state ticks (now (out .entry)) r (now (out .exit)) ⌝ }
 {
-    if 4096 < n {
+    if State::MAX_TICKS < n as u32 {
         return Drawn {
             state,
             seen,

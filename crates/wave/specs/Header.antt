@@ -17,6 +17,7 @@ unfoldable pub declarations : ℕ → ℕ → ℕ → List ℕ → List ℕ
 declarations zero width first name = []
 declarations (suc c) width first name = declarations c width first name ++ declaration width (first + c) name c
 
+-- the names of all signals, and at time 0 every value of the reset state
 unfoldable pub header : List ℕ
 header =
     ascii "$comment one unit of time is one tick of TCR1 $end\n$timescale 1 us $end\n$scope module tpu $end\n"
