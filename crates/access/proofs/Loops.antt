@@ -30,10 +30,6 @@ pub in-group : (s : State) (c k : ℕ) → k < size s c → c + k < 16
 unfolding size
 in-group s c k h = omega (arith, h, last-small s c)
 
-pub group-end : (s : State) (c : ℕ) → c < 16 → c + size s c ≤ 16
-unfolding size
-group-end s c h = omega (arith, h, last-small s c)
-
 -- whether the group of p reaches the channel c, by what was asked of it
 pub reaches-yes : (s : State) (c p : ℕ) → stepping s p ≡ true → (leb p c && leb c (last s p)) ≡ true → reaches s c p ≡ true
 unfolding reaches

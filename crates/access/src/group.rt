@@ -1,37 +1,31 @@
-// The group of a primary: its channels, its motor, and whether it is bound.
+// The group of a primary: its channels, and whether it is bound.
 ghost use mathlib.Core.Path.{_≡_};
+ghost use Prim.Native.Nat.{suc, _-_};
 ghost use mathlib.Core.Bool.{_&&_};
 ghost use lib.Dec.{leb};
+ghost use Rattle.words.specs.Field.{field};
 ghost use Rattle.motor.specs.Group.{bound};
-ghost use Rattle.unit.specs.TheUnit.{last, size, motorOf, stepping, isBound};
+ghost use Rattle.unit.specs.TheUnit.{last, size, stepping, isBound};
 ghost use Rattle.unit.specs.Gate.{isFree, requested};
 use crate::parameters;
 use crate::records;
 use crate::registers;
-use motor::Motor;
 use motor::Phase;
 use unit::State;
+use words::field;
 
-// How many channels the group of c has.
-pub fn size(s: State, c: u16) -> u16
-    ensures { λ r. ⌜ r ≡ size s c ⌝ }
+// How many channels the group of c has, its word 5 being w.
+pub fn size_in(w: u16, c: u16) -> u16
+    ensures { λ r. ⌜ r ≡ suc (field 4 w 0) - c ⌝ }
 {
-    let l = parameters::last(s, c);
+    let l = field::nibble(w, 0);
     if c <= l { l - c + 1 } else { 0 }
 }
 
-pub fn motor_of(s: State, c: u16) -> Motor
-    ensures { λ r. ⌜ r ≡ motorOf s c ⌝ }
+pub fn size(s: State, c: u16) -> u16
+    ensures { λ r. ⌜ r ≡ size s c ⌝ }
 {
-    let x = records::channel(s, c);
-    let way = x.way;
-    Motor {
-        position: parameters::word(s, c, 2),
-        target: parameters::word(s, c, 3),
-        rate: parameters::next_rate(s, c),
-        top: parameters::top(s, c),
-        way: way,
-    }
+    size_in(parameters::word(s, c, 5), c)
 }
 
 // A phase in which the group is bound.

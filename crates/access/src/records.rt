@@ -1,6 +1,6 @@
 // What is kept of a channel beside its registers and words.
 ghost use mathlib.Core.Path.{_≡_};
-ghost use Rattle.unit.specs.TheUnit.{channel, withChannel, withInitialised, withLevel, withPhase};
+ghost use Rattle.unit.specs.TheUnit.{channel, withChannel, withInitialised, withPhase};
 use motor::Phase;
 use motor::Way;
 use unit::Channel;
@@ -34,22 +34,6 @@ pub fn with_initialised(s: State, c: u16, on: bool) -> State
     let n = Channel {
         initialised: on,
         level: x.level,
-        way: way,
-        phase: phase,
-    };
-    with_channel(s, c, n)
-}
-
-// The level that the pin takes at the next match of its group.
-pub fn with_level(s: State, c: u16, on: bool) -> State
-    ensures { λ r. ⌜ r ≡ withLevel s c on ⌝ }
-{
-    let x = channel(s, c);
-    let way = x.way;
-    let phase = x.phase;
-    let n = Channel {
-        initialised: x.initialised,
-        level: on,
         way: way,
         phase: phase,
     };

@@ -1,81 +1,70 @@
-// The service of a channel: its request, then its match.
+// The service of a channel: its request, and whether its motor is tested.
 ghost use mathlib.Core.Path.{_≡_};
+ghost use mathlib.Core.Bool.{false};
 ghost use Prim.Native.Nat.{_<_};
-ghost use Rattle.unit.specs.TheUnit.{channel};
-ghost use Rattle.unit.specs.OneTick.{initialise, stepRequest, requestServed, matchServed};
-use crate::pins;
-use crate::step;
-use access::group;
-use access::parameters;
-use access::records;
+ghost use lib.Dec.{leb};
+ghost use Rattle.words.specs.Choice.{pick};
+ghost use Rattle.unit.specs.OneTick.{initialise};
+ghost use Rattle.tick.specs.Parts.{isTested, setUp, requestDone};
 use access::registers;
 use motor::Phase;
-use motor::service;
+use unit::Channel;
 use unit::State;
 use words::field;
 
-fn initialise(s: State, c: u16) -> State
+fn set_up(x: Channel) -> Channel
+    ensures { λ r. ⌜ r ≡ setUp x ⌝ }
+{
+    let way = x.way;
+    let phase = x.phase;
+    Channel {
+        initialised: true,
+        level: x.level,
+        way: way,
+        phase: phase,
+    }
+}
+
+fn initialise(mut s: State, c: u16) -> State
     requires { ⌜ c < 16 ⌝ }
     ensures { λ r. ⌜ r ≡ initialise c s ⌝ }
 {
-    let high = field::pair(parameters::word(s, c, 0), 0) == 1;
-    let pattern = parameters::word(s, c, 1);
-    let loaded = parameters::with_word(pins::with_pin(s, c, high), c, 0, pattern);
-    pins::with_status(records::with_initialised(loaded, c, true), c)
+    let at = 8 * (c as usize);
+    s.pins = field::with_bit(s.pins, c, field::pair(s.words[at], 0) == 1);
+    s.words[at] = s.words[at + 1];
+    s.channels[c as usize] = set_up(s.channels[c as usize]);
+    s.regs[11] = field::with_bit(s.regs[11], c, true);
+    s
 }
 
-// While stepping a request does nothing.
-fn step_request(s: State, c: u16, p: Phase) -> State
-    requires { ⌜ c < 16 ⌝ }
-    ensures { λ r. ⌜ r ≡ stepRequest p c s ⌝ }
+// A request of an enabled channel.
+pub fn is_asked(on: bool, r: u16) -> bool
+    ensures { λ out. ⌜ out ≡ pick on (leb 2 r) false ⌝ }
 {
-    match p {
-        Phase::Resting => s,
-        Phase::Requested => step::outcome(s, c, s.tcr1, service::on_request(group::motor_of(s, c))),
-        Phase::Armed(_) => s,
-        Phase::Matched(_) => s,
-    }
+    if on { 2 <= r } else { false }
 }
 
-fn serve_request(s: State, c: u16) -> State
+// A request to step needs no more than that it is no longer pending: the test comes next.
+pub fn request_done(mut s: State, c: u16, r: u16) -> State
     requires { ⌜ c < 16 ⌝ }
-    ensures { λ r. ⌜ r ≡ requestServed c s ⌝ }
+    ensures { λ out. ⌜ out ≡ requestDone s c r ⌝ }
 {
-    let r = registers::request(s, c);
+    let i = registers::hsrr_of(c) as usize;
+    s.regs[i] = field::with_pair(s.regs[i], c, 0);
     if r == 2 {
-        return initialise(registers::with_request(s, c, 0), c);
-    }
-    if r == 3 {
-        let x = records::channel(s, c);
-        let phase = x.phase;
-        return step_request(registers::with_request(s, c, 0), c, phase);
+        return initialise(s, c);
     }
     s
 }
 
-fn serve_match(s: State, c: u16, p: Phase) -> State
-    requires { ⌜ c < 16 ⌝ }
-    ensures { λ r. ⌜ r ≡ matchServed p c s ⌝ }
+// An enabled motor is tested where its request to step is served at rest, or its match. The phase is that before the request.
+pub fn is_tested(on: bool, r: u16, p: Phase) -> bool
+    ensures { λ out. ⌜ out ≡ isTested on r p ⌝ }
 {
     match p {
-        Phase::Resting => s,
-        Phase::Requested => s,
-        Phase::Armed(_) => s,
-        Phase::Matched(captured) => step::outcome(
-            s,
-            c,
-            captured,
-            service::on_match(group::motor_of(s, c)),
-        ),
+        Phase::Resting => false,
+        Phase::Requested => { if on { r == 3 } else { false } }
+        Phase::Armed(_) => false,
+        Phase::Matched(_) => on,
     }
-}
-
-// Which match is served is settled before the request is.
-pub fn serve(s: State, c: u16) -> State
-    requires { ⌜ c < 16 ⌝ }
-    ensures { λ r. ⌜ r ≡ matchServed ((channel s c) .phase) c (requestServed c s) ⌝ }
-{
-    let x = records::channel(s, c);
-    let phase = x.phase;
-    serve_match(serve_request(s, c), c, phase)
 }

@@ -1,22 +1,22 @@
-// A step of a group, and what a service decided.
+// What was decided, part by part: words and levels of the group, pins, phase, status.
 ghost use mathlib.Core.Path.{_≡_};
 ghost use Prim.Native.Nat.{_<_, _≤_, _+_};
-ghost use Rattle.words.specs.Choice.{pick};
 ghost use lib.Dec.{eqb};
-ghost use Rattle.words.specs.Field.{withField};
-ghost use Rattle.motor.specs.Stepping.{period, beside};
-ghost use Rattle.unit.specs.TheUnit.{each, word, withWord, position, nextRate, cntl0, cntl1};
-ghost use Rattle.unit.specs.Stepping.{nextCount, turnedOnce, prepared, stepped, outcome};
+ghost use lib.ListN.{length, getD};
+ghost use Rattle.words.specs.Choice.{pick};
+ghost use Rattle.words.specs.Clock.{due, later};
+ghost use Rattle.unit.specs.TheUnit.{each};
+ghost use Rattle.unit.specs.Stepping.{nextCount, turnedOnce, prepared};
+ghost use Rattle.tick.specs.Parts.{reference, decided, motorIn, withLevelIn, periodIn, moved, bare, sizeIn, pinsAfter, standing, statusAfter, channelsAfter};
 use crate::matches;
-use crate::pins;
 use access::group;
-use access::parameters;
-use access::records;
+use motor::Motor;
 use motor::Outcome;
 use motor::Phase;
 use motor::Way;
+use motor::service;
 use motor::step;
-use unit::State;
+use unit::Channel;
 use words::clock;
 use words::field;
 use words::rotation;
@@ -49,73 +49,167 @@ fn reloaded(m: u16, source: u16, x: u16) -> u16
     if m == 0 { source } else { x }
 }
 
-// A step in the channel j of its group, m being MOD_CNT after it.
-fn prepare(s: State, way: Way, m: u16, j: u16) -> State
-    ensures { λ r. ⌜ r ≡ prepared way m j s ⌝ }
+fn with_level(x: Channel, on: bool) -> Channel
+    ensures { λ r. ⌜ r ≡ withLevelIn x on ⌝ }
 {
-    let x = turned_once(way, parameters::word(s, j, 0));
-    let control = reloaded(m, parameters::word(s, j, 1), x);
-    records::with_level(
-        parameters::with_word(s, j, 0, control),
-        j,
-        field::bit(x, 15),
-    )
-}
-
-// The n channels of the group of c.
-fn prepare_all(mut s: State, c: u16, n: u16, way: Way, m: u16) -> State
-    requires { ⌜ c + n ≤ 16 ⌝ }
-    ensures { λ r. ⌜ r ≡ each n c (prepared way m) s ⌝ }
-{
-    for k in 0..n {
-        s = prepare(s, way, m, c + k);
+    let way = x.way;
+    let phase = x.phase;
+    Channel {
+        initialised: x.initialised,
+        level: on,
+        way: way,
+        phase: phase,
     }
-    s
 }
 
-// Position, MOD_CNT and next rate of the primary c after a step.
-fn counted(s: State, c: u16, way: Way, m: u16, k: u16) -> State
-    ensures { λ r. ⌜ r ≡ withWord (withWord s c 2 (beside way (position s c))) c 4 (withField 4 (withField 4 (word s c 4) 8 m) 0 k) ⌝ }
+// What was decided, and when: now, and the time for which a step sets its match.
+pub struct Plan {
+    pub outcome: Outcome,
+    pub now: u16,
+    pub time: u16,
+}
+
+// The captured time, or TCR1 for a request.
+fn reference(p: Phase, now: u16) -> u16
+    ensures { λ r. ⌜ r ≡ reference p now ⌝ }
 {
-    let p = step::beside(way, parameters::word(s, c, 2));
-    let w = field::with_nibble(field::with_nibble(parameters::word(s, c, 4), 2, m), 0, k);
-    parameters::with_word(parameters::with_word(s, c, 2, p), c, 4, w)
+    match p {
+        Phase::Resting => now,
+        Phase::Requested => now,
+        Phase::Armed(_) => now,
+        Phase::Matched(captured) => captured,
+    }
+}
+
+fn decided(p: Phase, m: Motor) -> Outcome
+    ensures { λ r. ⌜ r ≡ decided p m ⌝ }
+{
+    match p {
+        Phase::Resting => service::on_request(m),
+        Phase::Requested => service::on_request(m),
+        Phase::Armed(_) => service::on_request(m),
+        Phase::Matched(_) => service::on_match(m),
+    }
+}
+
+// A word, or 0 where there is none: a primary at channel 15 has no channel after it.
+fn word_at(words: &[u16; 128], at: usize) -> u16
+    requires { ⌜ length (now words) ≡ 128 ⌝ }
+    ensures { λ r. ⌜ r ≡ getD (now (words .entry)) at 0 ⌝ }
+{
+    if at < 128 { words[at] } else { 0 }
 }
 
 // The period of the step to come.
-fn step_period(s: State, c: u16) -> u16
-    requires { ⌜ c < 16 ⌝ }
-    ensures { λ r. ⌜ r ≡ period (cntl0 s c) (cntl1 s c) (nextRate s c) ⌝ }
+fn period_of(words: &[u16; 128], c: u16) -> u16
+    requires { ⌜ (c < 16) × (length (now words) ≡ 128) ⌝ }
+    ensures { λ r. ⌜ r ≡ periodIn (now (words .entry)) c ⌝ }
 {
+    let at = 8 * (c as usize);
     step::period(
-        parameters::word(s, c + 1, 2),
-        parameters::word(s, c + 1, 3),
-        parameters::next_rate(s, c),
+        word_at(words, at + 10),
+        word_at(words, at + 11),
+        field::nibble(words[at + 4], 0),
     )
 }
 
-fn stepped(s: State, c: u16, reference: u16, way: Way, k: u16) -> State
+fn motor_in(words: &[u16; 128], c: u16, way: Way) -> Motor
     requires { ⌜ c < 16 ⌝ }
-    ensures { λ r. ⌜ r ≡ stepped s c reference way k ⌝ }
+    ensures { λ r. ⌜ r ≡ motorIn (now (words .entry)) c way ⌝ }
 {
-    let m = next_count(way, parameters::mod_count(s, c));
-    let time = clock::later(reference, step_period(s, c));
-    let n = group::size(s, c);
-    let turned = prepare_all(counted(s, c, way, m, k), c, n, way, m);
-    matches::set(turned, c, way, time)
+    let at = 8 * (c as usize);
+    Motor {
+        position: words[at + 2],
+        target: words[at + 3],
+        rate: field::nibble(words[at + 4], 0),
+        top: field::nibble(words[at + 5], 2),
+        way: way,
+    }
 }
 
-// The run ends, its bit is set and the group is free; or a step.
-pub fn outcome(s: State, c: u16, reference: u16, o: Outcome) -> State
-    requires { ⌜ c < 16 ⌝ }
-    ensures { λ r. ⌜ r ≡ outcome s c reference o ⌝ }
+pub fn planned(words: &[u16; 128], c: u16, phase: Phase, way: Way, tcr1: u16) -> Plan
+    requires { ⌜ (c < 16) × (length (now words) ≡ 128) ⌝ }
+    ensures { λ r. ⌜ r ≡ record { outcome = decided phase (motorIn (now (words .entry)) c way); now = tcr1; time = later (reference phase tcr1) (periodIn (now (words .entry)) c) } ⌝ }
 {
+    let o = decided(phase, motor_in(words, c, way));
+    Plan {
+        outcome: o,
+        now: tcr1,
+        time: clock::later(reference(phase, tcr1), period_of(words, c)),
+    }
+}
+
+// The words and channels of the group after what was decided, the match of a step among them.
+pub fn moved(words: &mut [u16; 128], mut channels: [Channel; 16], c: u16, p: Plan) -> [Channel; 16]
+    requires { ⌜ c < 16 ⌝ }
+    ensures { λ r. ⌜ (r ≡ channelsAfter (p .outcome) (now (words .entry)) channels c (p .now) (p .time)) × (now (words .exit) ≡ (moved (p .outcome) c (bare (now (words .entry)) channels)) .words) ⌝ }
+{
+    let o = p.outcome;
+    let at = 8 * (c as usize);
     match o {
-        Outcome::Step(way, k) => stepped(s, c, reference, way, k),
-        Outcome::Arrived => {
-            let x = records::channel(s, c);
-            let way = x.way;
-            pins::with_status(records::with_phase(s, c, way, Phase::Resting), c)
+        Outcome::Arrived => {}
+        Outcome::Step(way, k) => {
+            let w = words[at + 4];
+            let m = next_count(way, field::nibble(w, 2));
+            let n = group::size_in(words[at + 5], c);
+            words[at + 2] = step::beside(way, words[at + 2]);
+            words[at + 4] = field::with_nibble(field::with_nibble(w, 2, m), 0, k);
+            for i in 0..n {
+                let j = (c + i) as usize;
+                let x = turned_once(way, words[8 * j]);
+                words[8 * j] = reloaded(m, words[8 * j + 1], x);
+                channels[j] = with_level(channels[j], field::bit(x, 15));
+            }
         }
+    }
+    channels[c as usize] = standing(p, channels[c as usize]);
+    channels
+}
+
+// Where a match is due as it is set, the pins change there. w is word 5 of the primary.
+pub fn pins_after(p: Plan, channels: [Channel; 16], pins: u16, c: u16, w: u16) -> u16
+    requires { ⌜ c < 16 ⌝ }
+    ensures { λ r. ⌜ r ≡ pinsAfter (p .outcome) (due (p .now) (p .time)) channels pins c (sizeIn w c) ⌝ }
+{
+    let o = p.outcome;
+    match o {
+        Outcome::Arrived => pins,
+        Outcome::Step(_, _) => {
+            if clock::due(p.now, p.time) {
+                return matches::levels_out(channels, pins, c, group::size_in(w, c));
+            }
+            pins
+        }
+    }
+}
+
+// At rest, or with a match set for its time, which may have happened there.
+fn standing(p: Plan, x: Channel) -> Channel
+    ensures { λ r. ⌜ r ≡ standing (p .outcome) x (p .now) (p .time) ⌝ }
+{
+    let o = p.outcome;
+    match o {
+        Outcome::Arrived => {
+            let way = x.way;
+            matches::in_phase(x, way, Phase::Resting)
+        }
+        Outcome::Step(way, _) => {
+            if clock::due(p.now, p.time) {
+                return matches::in_phase(x, way, Phase::Matched(p.now));
+            }
+            matches::in_phase(x, way, Phase::Armed(p.time))
+        }
+    }
+}
+
+// The status bit of c is set where its motor has arrived.
+pub fn status_after(p: Plan, cisr: u16, c: u16) -> u16
+    requires { ⌜ c < 16 ⌝ }
+    ensures { λ r. ⌜ r ≡ statusAfter (p .outcome) cisr c ⌝ }
+{
+    let o = p.outcome;
+    match o {
+        Outcome::Arrived => field::with_bit(cisr, c, true),
+        Outcome::Step(_, _) => cisr,
     }
 }

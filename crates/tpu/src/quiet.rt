@@ -53,7 +53,7 @@ pub fn lesser(a: u16, b: u16) -> u16
     if a <= b { a } else { b }
 }
 
-// In all channels.
+// In all channels. Where motors step often the first of them answers for all.
 pub fn quiet_ticks(s: State) -> u16
     ensures { λ r. ⌜ r ≡ quietBelow 16 s ⌝ }
 {
@@ -67,6 +67,9 @@ pub fn quiet_ticks(s: State) -> u16
             q,
             quiet_in(field::pair(cpr, c), field::pair(hsrr, c), phase, s.tcr1),
         );
+        if q == 0 {
+            return 0;
+        }
     }
     q
 }

@@ -1,4 +1,3 @@
-use Rattle.access.proofs.Loops.{each-next}
 use borrow.Author.Needs.{needs}
 use native.Mathlib.Omega.{arith}
 use mathlib.Core.Path.{_≡_, refl, sym, ap, _∙_}
@@ -7,6 +6,8 @@ use Prim.Native.Nat.{_-_, _≤_}
 use Rattle.unit.specs.TheUnit.{each, channel}
 use Rattle.unit.specs.OneTick.{matched}
 use Rattle.unit.proofs.Scans.{match-acts, match-rests}
+use Rattle.access.proofs.Loops.{each-next}
+use Rattle.tick.proofs.PartLaws.{match-parts, in-sixteen}
 use Rattle.tick.proofs.match_all.Statement.{statement}
 use Rattle.tick.proofs.match_all.Tie as tie
 
@@ -32,8 +33,40 @@ element-copy-out-x c = search needs
 is-due-requires : tie.Need-is-due-requires Inv-loop μ-loop
 is-due-requires c κs = search needs
 
-happen-requires : tie.Need-happen-requires Inv-loop μ-loop
-happen-requires c κs = search needs
+cast-size-in : tie.Need-cast-size-in Inv-loop μ-loop
+cast-size-in c = search needs
+
+mul-size-in : tie.Need-mul-size-in Inv-loop μ-loop
+mul-size-in c = search needs
+
+add-size-in : tie.Need-add-size-in Inv-loop μ-loop
+add-size-in c = search needs
+
+mul-size-in-2 : tie.Need-mul-size-in-2 Inv-loop μ-loop
+mul-size-in-2 c = search needs
+
+element-copy-out-size-in : tie.Need-element-copy-out-size-in Inv-loop μ-loop
+element-copy-out-size-in c = search needs
+
+size-in-requires : tie.Need-size-in-requires Inv-loop μ-loop
+size-in-requires c κs = search needs
+
+levels-out-requires : tie.Need-levels-out-requires Inv-loop μ-loop
+levels-out-requires c κs =
+    let l = c .before .before .before .before .before .before .before .loop in
+    rw (c .before .size-in .ensures) (in-sixteen _ (l .c) (omega arith))
+
+happened-requires : tie.Need-happened-requires Inv-loop μ-loop
+happened-requires c κs = search needs
+
+cast-t15 : tie.Need-cast-t15 Inv-loop μ-loop
+cast-t15 c = search needs
+
+mul-t16 : tie.Need-mul-t16 Inv-loop μ-loop
+mul-t16 c = search needs
+
+element-set-from-s : tie.Need-element-set-from-s Inv-loop μ-loop
+element-set-from-s c = search needs
 
 add-c : tie.Need-add-c Inv-loop μ-loop
 add-c c = omega arith
@@ -48,7 +81,7 @@ loop-again c =
     let e = c .before .is-due .ensures in
     let step : c .if1 .s ≡ matched (l .c) (l .s) =
     ⊎-elim
-    (λ w. w .2 ∙ (w .1 .ensures ∙ sym (match-acts (l .s) (l .c) (sym e ∙ w .0 .taken))))
+    (λ w. w .6 ∙ (rw (w .5 .ensures, w .4 .ensures, w .2 .ensures) (match-parts (l .s) (l .c)) ∙ sym (match-acts (l .s) (l .c) (sym e ∙ w .0 .taken))))
     (λ w. w .1 ∙ sym (match-rests (l .s) (l .c) (sym e ∙ w .0 .left)))
     (c .if1 .came) in
     (omega arith, step ∙ (ap (matched (l .c)) (l .inv .1) ∙ sym (each-next (l .c) 0 (l .c) matched _ (omega arith))))
@@ -69,7 +102,17 @@ match-all-spec =
     mul-x
     element-copy-out-x
     is-due-requires
-    happen-requires
+    cast-size-in
+    mul-size-in
+    add-size-in
+    mul-size-in-2
+    element-copy-out-size-in
+    size-in-requires
+    levels-out-requires
+    happened-requires
+    cast-t15
+    mul-t16
+    element-set-from-s
     add-c
     loop-less
     loop-again

@@ -1,26 +1,17 @@
-use Prim.Native.Nat.{_<_}
-use Rattle.unit.proofs.Alone.{last-small}
-use Rattle.unit.specs.TheUnit.{size}
-use native.Mathlib.Omega.{arith}
+use Rattle.unit.specs.TheUnit.{size, last}
 use borrow.Author.Needs.{needs}
 use Rattle.access.proofs.group.size.Statement.{statement}
 use Rattle.access.proofs.group.size.Tie as tie
 
-last-requires : tie.Need-last-requires
-last-requires c κs = search needs
+word-requires : tie.Need-word-requires
+word-requires c κs = search needs
 
-add-result : tie.Need-add-result
-add-result c =
-    let h : c .before .last .result < 16 = rw (c .before .last .ensures) (last-small _ _) in
-    omega (arith, h)
+size-in-requires : tie.Need-size-in-requires
+size-in-requires c κs = search needs
 
 returns : tie.Need-returns
-unfolding size
-returns c = rw (← c .before .last .ensures) (omega arith)
-
-returns-2 : tie.Need-returns-2
-unfolding size
-returns-2 c = rw (← c .before .last .ensures) (omega arith)
+unfolding size last
+returns c = rw (c .size-in .ensures, c .before .word .ensures)
 
 pub size-spec : {M : Type 1} → statement M
-size-spec = tie.close (tie.spec last-requires add-result returns returns-2)
+size-spec = tie.close (tie.spec word-requires size-in-requires returns)

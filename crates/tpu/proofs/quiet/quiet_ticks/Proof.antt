@@ -1,11 +1,12 @@
 use borrow.Author.Needs.{needs}
 use native.Mathlib.Omega.{arith}
 use native.Mathlib.Numerals.{add-one}
-use mathlib.Core.Path.{_≡_, refl}
-use Prim.Native.Nat.{_-_, _≤_, _<_}
+use mathlib.Core.Path.{_≡_, refl, sym, _∙_}
+use Prim.Native.Nat.{_+_, _-_, _≤_, _<_}
 use Rattle.unit.specs.TheUnit.{channel, request, reg}
 use Rattle.unit.specs.Pending.{wanted}
 use Rattle.unit.specs.Quiet.{quietAt, quietBelow}
+use Rattle.unit.proofs.Quiet.{none-below}
 use Rattle.access.proofs.Places.{cpr-in, hsrr-in}
 use Rattle.tpu.proofs.quiet.quiet_ticks.Statement.{statement}
 use Rattle.tpu.proofs.quiet.quiet_ticks.Tie as tie
@@ -78,11 +79,19 @@ loop-less c = omega arith
 loop-again : tie.Need-loop-again Inv-loop μ-loop
 unfolding quietBelow quietAt wanted channel request reg
 loop-again c =
-    let l = c .before .before .before .before .before .before .before .before .before .before .loop in
-    (omega arith, rw (add-one, c .lesser .ensures, c .before .quiet-in .ensures, c .before .before .pair2 .ensures, c .before .before .before .pair .ensures, c .before .before .before .before .before .hsrr-of .ensures, c .before .before .before .before .before .before .before .cpr-of .ensures, ← l .inv .1))
+    let l = c .before .before .before .before .before .before .before .before .before .before .before .loop in
+    (omega arith, rw (add-one, c .before .lesser .ensures, c .before .before .quiet-in .ensures, c .before .before .before .pair2 .ensures, c .before .before .before .before .pair .ensures, c .before .before .before .before .before .before .hsrr-of .ensures, c .before .before .before .before .before .before .before .before .cpr-of .ensures, ← l .inv .1))
 
 returns : tie.Need-returns Inv-loop μ-loop
+unfolding quietBelow quietAt wanted channel request reg
 returns c =
+    let l = c .before .before .before .before .before .before .before .before .before .before .before .loop in
+    let s = c .before .before .before .before .before .before .before .before .before .before .before .before .args .t1 in
+    let least : c .before .lesser .result ≡ quietBelow (l .c + 1) s = rw (add-one, c .before .lesser .ensures, c .before .before .quiet-in .ensures, c .before .before .before .pair2 .ensures, c .before .before .before .before .pair .ensures, c .before .before .before .before .before .before .hsrr-of .ensures, c .before .before .before .before .before .before .before .before .cpr-of .ensures, ← l .inv .1) in
+    sym (none-below (l .c + 1) 16 s (omega arith) (sym least ∙ c .if1 .taken))
+
+returns-2 : tie.Need-returns-2 Inv-loop μ-loop
+returns-2 c =
     let e : c .before .loop .c ≡ 16 = omega arith in
     rw (← e) (c .before .loop .inv .1)
 
@@ -108,7 +117,8 @@ quiet-ticks-spec =
     pair-requires-2
     quiet-in-requires
     lesser-requires
+    returns
     add-c
     loop-less
     loop-again
-    returns)
+    returns-2)

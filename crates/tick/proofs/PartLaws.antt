@@ -1,0 +1,197 @@
+-- What the parts make of the state is what the definitions say.
+use Prim.Native.Nat.{ℕ, zero, suc, _+_, _*_, _%_, _≤_, _<_}
+use native.Mathlib.Omega.{arith}
+use mathlib.Core.Bool.{Bool, true, false}
+use mathlib.Core.List.{List, [], _∷_}
+use mathlib.Core.Path.{_≡_, refl, sym, ap, _∙_}
+use lib.Dec.{eqb, leb}
+use lib.ListN.{length, getD, set, length-set}
+use lib.Seq.{set-getD}
+use Rattle.words.specs.Choice.{pick}
+use Rattle.words.specs.Clock.{due, later}
+use Rattle.words.specs.Field.{field, withField, bitOf, bitValue}
+use Rattle.words.proofs.FieldLaws.{field-lt}
+use Rattle.motor.specs.declared.Way.{Way}
+use Rattle.motor.specs.declared.Phase.{Phase}
+use Rattle.motor.specs.declared.Phase.the-variants.{Resting, Requested, Armed, Matched}
+use Rattle.motor.specs.declared.Outcome.{Outcome}
+use Rattle.motor.specs.declared.Outcome.the-variants.{Arrived, Step}
+use Rattle.motor.specs.Stepping.{onRequest, onMatch}
+use Rattle.unit.specs.declared.Channel.{Channel}
+use Rattle.unit.specs.declared.State.{State}
+use Rattle.unit.specs.TheUnit.{idle, each, withPins, withPin, withReg, withRequest, withStatus, withWords, withWord, withChannel, withInitialised, withLevel, withPhase, channel, channelControl, pinControl, word, reg, hsrrOf, request, enabled, size, last, position, modCount, nextRate, cntl0, cntl1, motorOf}
+use Rattle.unit.specs.Stepping.{pinOut, pinsOut, turnedOnce, prepared, matchSet, stepped, outcome}
+use Rattle.unit.specs.OneTick.{initialise, stepRequest, requestServed, matchServed, served}
+use Rattle.tick.specs.Parts.{sizeIn, levelsOut, inPhase, isTested, reference, decided, setUp, requestDone, withLevelIn, periodIn, moved, bare, pinsAfter, standing, statusAfter, channelsAfter}
+
+-- ---- pins
+
+one-level : (j p : ℕ) (s : State) → pinOut j (withPins s p) ≡ withPins s (withField 1 p j (bitValue ((channel s j) .level)))
+unfolding pinOut withPin withPins channel
+one-level j p s = refl
+
+levels-each : (n c : ℕ) (s : State) → each n c pinOut s ≡ withPins s (levelsOut n c (s .channels) (s .pins))
+unfolding each levelsOut withPins channel
+levels-each zero c s = refl
+levels-each (suc n) c s = ap (pinOut (c + n)) (levels-each n c s) ∙ one-level (c + n) (levelsOut n c (s .channels) (s .pins)) s
+
+pub pins-parts : (s : State) (c : ℕ) → pinsOut s c ≡ withPins s (levelsOut (size s c) c (s .channels) (s .pins))
+unfolding pinsOut
+pins-parts s c = levels-each (size s c) c s
+
+-- ---- words and channels
+
+-- words and channels of t, all else of s
+abbrev over : State → State → State
+over s t = record { words = t .words; regs = s .regs; tcr1 = s .tcr1; pins = s .pins; channels = t .channels }
+
+prepared-over : (w : Way) (m j : ℕ) (s t : State) → prepared w m j (over s t) ≡ over s (prepared w m j t)
+unfolding prepared withLevel withWord withWords withChannel channel channelControl pinControl word
+prepared-over w m j s t = refl
+
+each-over : (n c : ℕ) (w : Way) (m : ℕ) (s t : State) → each n c (prepared w m) (over s t) ≡ over s (each n c (prepared w m) t)
+unfolding each
+each-over zero c w m s t = refl
+each-over (suc n) c w m s t = ap (prepared w m (c + n)) (each-over n c w m s t) ∙ prepared-over w m (c + n) s (each n c (prepared w m) t)
+
+moved-over : (o : Outcome) (c : ℕ) (s t : State) → moved o c (over s t) ≡ over s (moved o c t)
+unfolding moved size last modCount position word withWord withWords
+moved-over Arrived c s t = refl
+moved-over (Step w k) c s t = each-over (size t c) c w _ s _
+
+moved-parts : (o : Outcome) (c : ℕ) (s : State) → moved o c s ≡ over s (moved o c (bare (s .words) (s .channels)))
+moved-parts o c s = moved-over o c s (bare (s .words) (s .channels))
+
+-- ---- what was decided
+
+-- a channel's record changed but for its level leaves the levels
+same-level : (y : List Channel) (c j : ℕ) (z : Channel) → z .level ≡ (getD y c idle) .level → (getD (set y c z) j idle) .level ≡ (getD y j idle) .level
+same-level [] c j z h = refl
+same-level (x ∷ y) zero zero z h = h
+same-level (x ∷ y) zero (suc j) z h = refl
+same-level (x ∷ y) (suc c) zero z h = refl
+same-level (x ∷ y) (suc c) (suc j) z h = same-level y c j z h
+
+levels-kept : (n c : ℕ) (y : List Channel) (z : Channel) (p : ℕ) → z .level ≡ (getD y c idle) .level → levelsOut n c (set y c z) p ≡ levelsOut n c y p
+unfolding levelsOut
+levels-kept zero c y z p h = refl
+levels-kept (suc n) c y z p h = rw (levels-kept n c y z p h, same-level y c (c + n) z h)
+
+pins-kept : (o : Outcome) (b : Bool) (y : List Channel) (p c n now time : ℕ) → pinsAfter o b (set y c (standing o (getD y c idle) now time)) p c n ≡ pinsAfter o b y p c n
+unfolding pinsAfter standing
+pins-kept Arrived b y p c n now time = refl
+pins-kept (Step w k) b y p c n now time = rw (levels-kept n c y (standing (Step w k) (getD y c idle) now time) p refl)
+
+pub channels-after : (o : Outcome) (l : List ℕ) (x y : List Channel) (z : Channel) (c now time : ℕ) → y ≡ (moved o c (bare l x)) .channels → z ≡ standing o (getD y c idle) now time → set y c z ≡ channelsAfter o l x c now time
+unfolding channelsAfter
+channels-after o l x y z c now time e f = rw (f, e)
+
+set-match : (b : Bool) (u : State) (c : ℕ) (w : Way) (time : ℕ) → pick b (withPhase (pinsOut u c) c w (Matched (u .tcr1))) (withPhase u c w (Armed time)) ≡ record { words = u .words; regs = u .regs; tcr1 = u .tcr1; pins = pick b (levelsOut (size u c) c (u .channels) (u .pins)) (u .pins); channels = set (u .channels) c (inPhase (channel u c) w (pick b (Matched (u .tcr1)) (Armed time))) }
+unfolding withPhase withChannel withPins channel
+set-match true u c w time = rw (pins-parts u c)
+set-match false u c w time = refl
+
+-- the state after what was decided, part by part
+abbrev parted : Outcome → State → ℕ → ℕ → State → State
+parted o s c time t =
+    record { words = t .words; regs = set (s .regs) 11 (statusAfter o (getD (s .regs) 11 0) c); tcr1 = s .tcr1; pins = pinsAfter o (due (s .tcr1) time) (t .channels) (s .pins) c (sizeIn (getD (t .words) (8 * c + 5) 0) c); channels = set (t .channels) c (standing o (getD (t .channels) c idle) (s .tcr1) time) }
+
+as-parted : (o : Outcome) (s : State) (c r : ℕ) → outcome s c r o ≡ parted o s c (later r (periodIn (s .words) c)) (moved o c (bare (s .words) (s .channels)))
+unfolding outcome stepped matchSet moved withStatus withReg withPhase withChannel reg channel statusAfter pinsAfter standing cntl0 cntl1 nextRate word size last
+as-parted Arrived s c r = refl
+as-parted (Step w k) s c r =
+    let time = later r (periodIn (s .words) c) in
+    let t = moved (Step w k) c (bare (s .words) (s .channels)) in
+    ap (λ u. matchSet u c w time) (moved-parts (Step w k) c s) ∙ (set-match (due (s .tcr1) time) (over s t) c w time ∙ ap (λ l. record { words = t .words; regs = l; tcr1 = s .tcr1; pins = pick (due (s .tcr1) time) (levelsOut (size t c) c (t .channels) (s .pins)) (s .pins); channels = set (t .channels) c (inPhase (channel t c) w (pick (due (s .tcr1) time) (Matched (s .tcr1)) (Armed time))) }) (sym (set-getD (s .regs) 11 0)))
+
+-- the same, the pins worked out from the channels as they are then
+pub outcome-parts : (o : Outcome) (s : State) (c r : ℕ) → record { words = (moved o c (bare (s .words) (s .channels))) .words; regs = set (s .regs) 11 (statusAfter o (getD (s .regs) 11 0) c); tcr1 = s .tcr1; pins = pinsAfter o (due (s .tcr1) (later r (periodIn (s .words) c))) (channelsAfter o (s .words) (s .channels) c (s .tcr1) (later r (periodIn (s .words) c))) (s .pins) c (sizeIn (getD ((moved o c (bare (s .words) (s .channels))) .words) (8 * c + 5) 0) c); channels = channelsAfter o (s .words) (s .channels) c (s .tcr1) (later r (periodIn (s .words) c)) } ≡ outcome s c r o
+unfolding channelsAfter
+outcome-parts o s c r =
+    let t = moved o c (bare (s .words) (s .channels)) in
+    rw (pins-kept o (due (s .tcr1) (later r (periodIn (s .words) c))) (t .channels) (s .pins) c (sizeIn (getD (t .words) (8 * c + 5) 0) c) (s .tcr1) (later r (periodIn (s .words) c))) (sym (as-parted o s c r))
+
+-- ---- a service
+
+-- a request is 0 to 3
+asked : {A : Type 0} (r : ℕ) (i w s : A) → r < 4 → pick (leb 2 r) (pick (eqb r 2) i w) s ≡ pick (eqb r 2) i (pick (eqb r 3) w s)
+asked zero i w s h = refl
+asked (suc zero) i w s h = refl
+asked (suc (suc zero)) i w s h = refl
+asked (suc (suc (suc zero))) i w s h = refl
+asked (suc (suc (suc (suc n)))) i w s h = absurd (omega (arith, h))
+
+asked-to-step : {A : Type 0} (r : ℕ) (f : A → A) (i w s : A) → r < 4 → pick (eqb r 3) (f (pick (leb 2 r) (pick (eqb r 2) i w) s)) (pick (leb 2 r) (pick (eqb r 2) i w) s) ≡ pick (eqb r 2) i (pick (eqb r 3) (f w) s)
+asked-to-step zero f i w s h = refl
+asked-to-step (suc zero) f i w s h = refl
+asked-to-step (suc (suc zero)) f i w s h = refl
+asked-to-step (suc (suc (suc zero))) f i w s h = refl
+asked-to-step (suc (suc (suc (suc n)))) f i w s h = absurd (omega (arith, h))
+
+-- the request, and then the test
+abbrev pub first : Bool → ℕ → ℕ → State → State
+first on r c s = pick (pick on (leb 2 r) false) (requestDone s c r) s
+
+abbrev pub then : Bool → ℕ → Phase → ℕ → State → State
+then on r p c t = pick (isTested on r p) (outcome t c (reference p (t .tcr1)) (decided p (motorOf t c))) t
+
+in-turn : (on : Bool) (r : ℕ) (p : Phase) (c : ℕ) (s : State) → r < 4 → then on r p c (first on r c s) ≡ pick on (matchServed p c (pick (eqb r 2) (initialise c (withRequest s c 0)) (pick (eqb r 3) (stepRequest p c (withRequest s c 0)) s))) s
+unfolding isTested reference decided requestDone matchServed stepRequest
+in-turn false r Resting c s h = refl
+in-turn false r Requested c s h = refl
+in-turn false r (Armed time) c s h = refl
+in-turn false r (Matched captured) c s h = refl
+in-turn true r Resting c s h = asked r (initialise c (withRequest s c 0)) (withRequest s c 0) s h
+in-turn true r Requested c s h = asked-to-step r (λ t. outcome t c (t .tcr1) (onRequest (motorOf t c))) (initialise c (withRequest s c 0)) (withRequest s c 0) s h
+in-turn true r (Armed time) c s h = asked r (initialise c (withRequest s c 0)) (withRequest s c 0) s h
+in-turn true r (Matched captured) c s h = ap (λ t. outcome t c captured (onMatch (motorOf t c))) (asked r (initialise c (withRequest s c 0)) (withRequest s c 0) s h)
+
+pub served-in-turn : (s : State) (c : ℕ) → then (enabled s c) (request s c) ((channel s c) .phase) c (first (enabled s c) (request s c) c s) ≡ served c s
+unfolding served requestServed request
+served-in-turn s c = in-turn (enabled s c) (request s c) ((channel s c) .phase) c s (omega (arith, field-lt 2 (reg s (hsrrOf c)) (2 * (c % 8))))
+
+-- ---- one channel: word 0 is found without adding 0
+
+pub prepared-channels : (w : Way) (m j at : ℕ) (t : State) (l : List ℕ) (x : List Channel) → at ≡ 8 * j + 0 → x ≡ t .channels → l ≡ t .words → set x j (withLevelIn (getD x j idle) (bitOf (turnedOnce w (getD l at 0)) 15)) ≡ (prepared w m j t) .channels
+unfolding prepared withLevel withWord withWords withChannel channel channelControl word
+prepared-channels w m j at t l x z e f = rw (z, e, f) refl
+
+pub prepared-words : (w : Way) (m j at : ℕ) (t : State) (l : List ℕ) → at ≡ 8 * j + 0 → l ≡ t .words → set l at (pick (eqb m 0) (getD l (8 * j + 1) 0) (turnedOnce w (getD l at 0))) ≡ (prepared w m j t) .words
+unfolding prepared withLevel withWord withWords withChannel channelControl pinControl word
+prepared-words w m j at t l z f = rw (z, f) refl
+
+pub initialise-parts : (s : State) (c at : ℕ) → at ≡ 8 * c + 0 → record { words = set (s .words) at (getD (s .words) (8 * c + 1) 0); regs = set (s .regs) 11 (withField 1 (getD (s .regs) 11 0) c 1); tcr1 = s .tcr1; pins = withField 1 (s .pins) c (bitValue (eqb (field 2 (getD (s .words) at 0) 0) 1)); channels = set (s .channels) c (setUp (getD (s .channels) c idle)) } ≡ initialise c s
+unfolding initialise withStatus withReg reg withInitialised withChannel channel withWord withWords withPin withPins word channelControl pinControl
+initialise-parts s c at z = rw z refl
+
+-- ---- the scans
+
+pub match-parts : (s : State) (c : ℕ) → record { words = s .words; regs = s .regs; tcr1 = s .tcr1; pins = levelsOut (sizeIn (getD (s .words) (8 * c + 5) 0) c) c (s .channels) (s .pins); channels = set (s .channels) c (inPhase (getD (s .channels) c idle) ((getD (s .channels) c idle) .way) (Matched (s .tcr1))) } ≡ withPhase (pinsOut s c) c ((channel s c) .way) (Matched (s .tcr1))
+unfolding withPhase withChannel withPins channel size last word
+match-parts s c = rw (pins-parts s c) refl
+
+-- a group ends with the unit, at the latest
+pub in-sixteen : (w c : ℕ) → c < 16 → c + sizeIn w c ≤ 16
+in-sixteen w c h = omega (arith, h, field-lt 4 w 0)
+
+-- what a test chose, b being its answer
+pub chosen : {A : Type 0} (b q : Bool) (x y z : A) → b ≡ q → b ≡ true → z ≡ x → z ≡ pick q x y
+chosen b q x y z e t h = rw (← e, t) h
+
+pub not-chosen : {A : Type 0} (b q : Bool) (x y z : A) → b ≡ q → b ≡ false → z ≡ y → z ≡ pick q x y
+not-chosen b q x y z e t h = rw (← e, t) h
+
+pub served-by : (s t u : State) (c : ℕ) (on : Bool) (r : ℕ) → on ≡ enabled s c → r ≡ request s c → t ≡ first on r c s → u ≡ then on r ((channel s c) .phase) c t → u ≡ served c s
+served-by s t u c on r e f g h = h ∙ (ap (then on r ((channel s c) .phase) c) g ∙ (rw (e, f) (served-in-turn s c)))
+
+-- ---- the words keep their number
+
+each-long : (n c : ℕ) (w : Way) (m : ℕ) (t : State) → length ((each n c (prepared w m) t) .words) ≡ length (t .words)
+unfolding each prepared withLevel withWord withWords withChannel
+each-long zero c w m t = refl
+each-long (suc n) c w m t = rw length-set (each-long n c w m t)
+
+pub moved-long : (o : Outcome) (c : ℕ) (t : State) → length ((moved o c t) .words) ≡ length (t .words)
+unfolding moved withWord withWords
+moved-long Arrived c t = refl
+moved-long (Step w k) c t = each-long (size t c) c w _ _ ∙ rw (length-set, length-set) refl
