@@ -1,2 +1,3 @@
+pub mod Leaps
 pub mod Trials
 pub mod History
