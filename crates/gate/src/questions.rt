@@ -1,9 +1,8 @@
-// The questions put for a channel. Question 2 is `access::group::is_free`.
+// The questions put for a channel. Question 2 is `group::is_free`.
 ghost use mathlib.Core.Path.{_≡_};
 ghost use Prim.Native.Nat.{_<_};
 ghost use Rattle.unit.specs.TheUnit.{all, size, modCount, cntl0, cntl1, top};
 ghost use Rattle.unit.specs.Gate.{isStepper, mayInitialise, otherwiseZero, spanGood, isReady, groupReady, showsPattern, patternGood, rampGood, targetGood};
-use access::group;
 use access::parameters;
 use access::records;
 use access::registers;

@@ -8,7 +8,6 @@ ghost use Rattle.words.specs.Choice.{ask};
 ghost use Rattle.unit.specs.Gate.{Yes, No, isStepper, requested, askInitialise, askStep, askChannel, andThen, askChannels};
 ghost use Rattle.gate.specs.Told.{told};
 use crate::questions;
-use access::group;
 use access::parameters;
 use access::registers;
 use unit::Answer;

@@ -10,7 +10,6 @@ ghost use Rattle.unit.specs.declared.Verdict.the-variants.{Taken, Refused};
 ghost use Rattle.unit.specs.declared.Deed.the-variants.{Register, Request};
 use crate::questions;
 use crate::requests;
-use access::group;
 use access::parameters;
 use access::registers;
 use unit::Answer;

@@ -214,7 +214,7 @@ fn travel(from: u16, target: u16, at: u16, then: u16) {
     };
     let start = Journey {
         m,
-        next: motor::service::on_request(m),
+        next: decision::on_request(m),
         tick: 1,
     };
     let end = arrived(start, at, then);
@@ -247,7 +247,7 @@ fn onward(t: Journey, at: u16, then: u16) -> Journey {
             decimal(p);
             Journey {
                 m,
-                next: motor::service::on_match(m),
+                next: decision::on_match(m),
                 tick: clock::later(t.tick, p),
             }
         }

@@ -7,7 +7,6 @@ mod step;
 ghost use mathlib.Core.Path.{_≡_};
 ghost use Rattle.unit.specs.TheUnit.{each};
 ghost use Rattle.unit.specs.OneTick.{matched, served, tick};
-use access::group;
 use access::pending;
 use access::registers;
 use unit::State;

@@ -9,12 +9,10 @@ ghost use Rattle.unit.specs.TheUnit.{each};
 ghost use Rattle.unit.specs.Stepping.{nextCount, turnedOnce, prepared};
 ghost use Rattle.tick.specs.Parts.{reference, decided, motorIn, withLevelIn, periodIn, moved, bare, sizeIn, pinsAfter, standing, statusAfter, channelsAfter};
 use crate::matches;
-use access::group;
 use motor::Motor;
 use motor::Outcome;
 use motor::Phase;
 use motor::Way;
-use motor::service;
 use motor::step;
 use unit::Channel;
 use words::clock;
@@ -85,10 +83,10 @@ fn decided(p: Phase, m: Motor) -> Outcome
     ensures { λ r. ⌜ r ≡ decided p m ⌝ }
 {
     match p {
-        Phase::Resting => service::on_request(m),
-        Phase::Requested => service::on_request(m),
-        Phase::Armed(_) => service::on_request(m),
-        Phase::Matched(_) => service::on_match(m),
+        Phase::Resting => decision::on_request(m),
+        Phase::Requested => decision::on_request(m),
+        Phase::Armed(_) => decision::on_request(m),
+        Phase::Matched(_) => decision::on_match(m),
     }
 }
 

@@ -11,8 +11,7 @@ use Rattle.unit.specs.declared.Answered.{Answered}
 use Rattle.unit.specs.declared.Verdict.{Verdict}
 use Rattle.unit.specs.declared.Verdict.the-variants.{Taken as Does, Refused as Stops}
 use Rattle.unit.specs.Gate.{gate, advanceGood}
-use Rattle.unit.specs.Calls.{answeredBy, writeOf, advanceOf}
-use Rattle.unit.specs.Moments.{isTaken}
+use Rattle.unit.specs.Calls.{answeredBy, writeOf, advanceOf, isTaken}
 use Rattle.pack.specs.Packing.{stateWords, packed, isWhole, laid, unpacked}
 use Rattle.tpu_c.specs.Numbers.{wordsAfter}
 

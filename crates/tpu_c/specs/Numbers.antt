@@ -11,8 +11,7 @@ use Rattle.unit.specs.declared.Answer.the-variants.{Taken, Refused}
 use Rattle.unit.specs.declared.Answered.{Answered}
 use Rattle.unit.specs.declared.State.{State}
 use Rattle.unit.specs.TheUnit.{interruptLine}
-use Rattle.unit.specs.Calls.{readOf, writeOf, advanceOf, lentAfter}
-use Rattle.unit.specs.Moments.{isTaken}
+use Rattle.unit.specs.Calls.{readOf, writeOf, advanceOf, lentAfter, isTaken}
 use Rattle.pack.specs.Packing.{packed, isWhole, unpacked}
 
 -- the answer where the lent words are not as many as hold a state; no question has this number

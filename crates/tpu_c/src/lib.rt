@@ -5,7 +5,7 @@ ghost use mathlib.Core.Bool.{true};
 ghost use lib.ListN.{length};
 ghost use Rattle.words.specs.Field.{bitValue};
 ghost use Rattle.unit.specs.TheUnit.{resetState};
-ghost use Rattle.unit.specs.Moments.{isTaken};
+ghost use Rattle.unit.specs.Calls.{isTaken};
 ghost use Rattle.pack.specs.Packing.{stateWords, packed, zeros, laid, unpacked};
 ghost use Rattle.tpu_c.specs.Refusals.{Refusals};
 ghost use Rattle.tpu_c.specs.Numbers.{numberOf, wordsAfter, resetAnswer, readNumber, wordRead, readAnswer, readWord, joined, writeAnswer, writeWords, writeState, advanceAnswer, advanceWords, advanceState, advancePins, lineAnswer};

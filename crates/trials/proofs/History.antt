@@ -8,9 +8,9 @@ use Rattle.unit.specs.TheUnit.{resetState, withWords, withReg, withTime, withPi
 use Rattle.unit.specs.Stepping.{pinOut, pinsOut, nextCount, turnedOnce, prepared, matchSet, stepped, outcome}
 use Rattle.unit.specs.OneTick.{matchOf, matched, initialise, stepRequest, requestServed, matchServed, served, clocked, tick, afterTicks}
 use Rattle.unit.specs.Gate.{place, isPlace, inList, isFree, isStepper, mayInitialise, otherwiseZero, spanGood, isReady, groupReady, showsPattern, patternGood, rampGood, targetGood, advanceGood, requested, askInitialise, askStep, askChannel, andThen, askChannels, verdictOf, keepsOrFree, askRegister, askWord, askPlace, gate, requestedOne, stored, done}
-use Rattle.unit.specs.Calls.{answeredBy, writeOf, advanceOf}
-use Rattle.unit.specs.Moments.{actsOf, acts, does, through, Typed, see, isTaken, isTargetOf, isStepOf, eventOf, moments, Typed, SetsGoing}
-use Rattle.unit.specs.Term3.{firstPeriod, Cut, atCount, atStart, momentsGone, momentsNow}
+use Rattle.unit.specs.Calls.{answeredBy, writeOf, advanceOf, isTaken}
+use Rattle.history.specs.Moments.{actsOf, acts, does, through, Typed, see, isTargetOf, isStepOf, eventOf, moments, Typed, SetsGoing}
+use Rattle.history.specs.Term3.{firstPeriod, Cut, atCount, atStart, momentsGone, momentsNow}
 use Rattle.words.specs.Choice.{ask}
 use Rattle.words.specs.Clock.{since, due, later}
 use Rattle.words.specs.Field.{field, withField, bitOf}
@@ -21,7 +21,7 @@ use Rattle.motor.specs.Track.{stopPlace, distance}
 use Rattle.motor.specs.Count.{steps, movesOf, movesIn, latest, stopOf, stepsOf, ticksOf, ticksIn, isTarget, Moment, Running, Enabled, Undisturbed, after as seen-after}
 use Rattle.trials.specs.History.{setUp, onTheWay, after, history, Met}
 use Rattle.unit.proofs.Tests.{and-left, and-right, not-yes}
-use Rattle.unit.proofs.Term3.{term-3}
+use Rattle.history.proofs.Term3.{term-3}
 
 -- tests over moments, which compute, and what they say
 unfoldable allBound : List Moment → Bool

@@ -4,8 +4,8 @@ use mathlib.Core.List.{List, [], _∷_, _++_}
 use lib.ListN.{replicate}
 use Rattle.motor.specs.Count.{Enabled, Undisturbed, ticksIn, steps, Arrives}
 use Rattle.unit.specs.Calls.{Call, Read, Write, Advance}
-use Rattle.unit.specs.Moments.{acts, see}
-use Rattle.unit.specs.Term3.{firstPeriod, Run, atStart, atCount, momentsGone, momentsNow, Cut}
+use Rattle.history.specs.Moments.{acts, see}
+use Rattle.history.specs.Term3.{firstPeriod, Run, atStart, atCount, momentsGone, momentsNow, Cut}
 
 -- motors on channels 4, 5 and 8, 9; the second is set going to the left
 unfoldable pub setUp : List Call

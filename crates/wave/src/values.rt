@@ -3,7 +3,6 @@ ghost use mathlib.Core.Path.{_≡_};
 ghost use Rattle.text.specs.Placing.{Wrote};
 ghost use Rattle.words.specs.Field.{bitValue};
 ghost use Rattle.wave.specs.Signals.{positionOf, binary, vector, wireValue, vectorValue, pinValues, positionValues, values};
-use access::group;
 use access::parameters;
 use unit::State;
 use words::field;

@@ -1,6 +1,6 @@
 use mathlib.Core.Path.{refl, _∙_}
 use Rattle.words.proofs.ChoiceLaws.{not-both}
-use Rattle.unit.specs.Moments.{isTaken}
+use Rattle.unit.specs.Calls.{isTaken}
 use Rattle.tpu_c.specs.Numbers.{numberOf, wordsAfter}
 use Rattle.tpu_c.proofs.Held.{laid-whole}
 use borrow.Author.Needs.{needs}

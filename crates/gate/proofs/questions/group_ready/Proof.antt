@@ -6,7 +6,7 @@ use borrow.Author.Needs.{needs}
 use Rattle.unit.specs.TheUnit.{all}
 use Rattle.unit.specs.Gate.{isReady, groupReady}
 use Rattle.gate.proofs.Channels.{asked-no, asked-yes}
-use Rattle.access.proofs.Loops.{in-group}
+use Rattle.group.proofs.Reaching.{in-group}
 use Rattle.gate.proofs.questions.group_ready.Statement.{statement}
 use Rattle.gate.proofs.questions.group_ready.Tie as tie
 

@@ -6,8 +6,8 @@ use borrow.Author.Needs.{needs}
 use Rattle.unit.specs.TheUnit.{all}
 use Rattle.unit.specs.Gate.{showsPattern}
 use Rattle.gate.proofs.Channels.{asked-no, asked-yes}
-use Rattle.access.proofs.Loops.{in-group}
-use Rattle.unit.proofs.WholeSteps.{mod-small}
+use Rattle.group.proofs.Reaching.{in-group}
+use Rattle.unit.proofs.Access.{mod-small}
 use Rattle.gate.proofs.questions.group_shows.Statement.{statement}
 use Rattle.gate.proofs.questions.group_shows.Tie as tie
 

@@ -2,7 +2,7 @@ use Prim.Native.Nat.{_<_}
 use native.Mathlib.Omega.{arith}
 use borrow.Author.Tests.{not-true, not-false, le-leb, lt-leb, lt-ltb, le-ltb}
 use borrow.Author.Needs.{needs}
-use Rattle.unit.proofs.Alone.{last-small}
+use Rattle.unit.proofs.Access.{last-small}
 use Rattle.unit.specs.Gate.{spanGood}
 use Rattle.gate.proofs.questions.span_good.Statement.{statement}
 use Rattle.gate.proofs.questions.span_good.Tie as tie

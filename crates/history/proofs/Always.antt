@@ -1,0 +1,126 @@
+-- In every history each group under way is held and shown, and the pins show what they should.
+use Prim.Native.Nat.{ℕ, _*_, _%_, _^_, _<_}
+use native.Mathlib.Omega.{arith}
+use mathlib.Core.Bool.{Bool, true, false}
+use mathlib.Core.List.{List, [], _∷_}
+use mathlib.Core.Path.{_≡_, refl, ap, sym, subst, _∙_}
+use mathlib.Core.Logic.{_≢_, _⊎_, inl, inr, ⊎-elim}
+use native.Mathlib.Nat.{zero-div}
+use borrow.Author.Tests.{le-leb}
+use Rattle.words.specs.Choice.{pick}
+use Rattle.words.specs.Clock.{due}
+use Rattle.words.specs.Field.{field}
+use Rattle.words.proofs.ChoiceLaws.{not-both}
+use Rattle.motor.specs.Group.{bound}
+use Rattle.unit.specs.declared.State.{State}
+use Rattle.unit.specs.declared.Channel.{Channel}
+use Rattle.unit.specs.TheUnit.{reg, hsrrOf, pin, reaches, isBound, last, idle, resetState, request, channel, channelControl, pinControl, position, stepping}
+use Rattle.history.specs.OneStep.{actsAt, pinAfterMatch, StepIs, StillIs}
+use Rattle.unit.specs.OneTick.{tick}
+use Rattle.unit.specs.Calls.{Call}
+use Rattle.history.specs.Moments.{Act, Ticks as ticks, Writes as writes, Nothing as nothing, does, through}
+use Rattle.history.specs.Always.{GroupShown, StateOf, ByInitialise, ByMatch, Always}
+use Rattle.history.proofs.Alone.{fades-tick}
+use Rattle.history.proofs.Held.{Held}
+use Rattle.history.proofs.Parts.{Part, part}
+use Rattle.history.proofs.WholeSteps.{tick-is}
+use Rattle.history.proofs.Pins.{initialisedPart, Initialises}
+use Rattle.history.proofs.Lit.{Lit, ReachedBy, reached-by, tick-outcome, initialised-pin, lit-tick}
+use Rattle.unit.proofs.Reset.{same-all}
+use Rattle.history.proofs.Fine.{Fine, fine-reset, fine-tick}
+use Rattle.history.proofs.Chain.{tick-held}
+use Rattle.history.proofs.Calls.{Words, words-acts, words-first}
+use Rattle.history.proofs.Shown.{Every, shown-tick}
+use Rattle.history.proofs.Every.{Good, good-write}
+
+-- ---- a tick, and many acts
+
+every-tick : (s : State) → Fine s → Every s → Every (tick s)
+unfolding Every
+every-tick s f e p l g =
+    let h : Held p s × GroupShown p s = e p l ((fades-tick s (f .sized)) .still p g) in
+    (tick-held p s (h .0) g, shown-tick p s f (h .0) (h .1))
+
+good-through : (xs : List Act) (s : State) → Words xs → Good s → Good (through s xs)
+unfolding through does Words
+good-through [] s w x = x
+good-through (ticks ∷ xs) s w x = good-through xs (tick s) w (fine-tick s (x .0), every-tick s (x .0) (x .1), lit-tick s (x .0) (x .1) (x .2))
+good-through (writes a v ∷ xs) s w x = good-through xs _ (w .1) (good-write a v s (w .0) x)
+good-through (nothing ∷ xs) s w x = good-through xs s w x
+
+every-reset : Every resetState
+unfolding Every stepping channel bound
+every-reset p l g = absurd (not-both g (ap (λ (y : Channel). bound (y .phase)) (same-all idle 16 p)))
+
+none-asked : (j : ℕ) → request resetState j ≡ 0
+unfolding request reg field
+none-asked j = rw (same-all {A = ℕ} 0 12 (hsrrOf j), zero-div (2 ^ (2 * (j % 8)))) refl
+
+lit-reset : Lit resetState
+unfolding stepping channel bound
+lit-reset =
+    record {
+      seen = λ p j l g. absurd (not-both g (ap (λ (y : Channel). bound (y .phase)) (same-all idle 16 p)));
+      rests = λ j l u i. absurd (not-both i (ap (λ (y : Channel). y .initialised) (same-all idle 16 j)));
+      asked = λ j l q. absurd (let k : _≡_ {A = ℕ} 0 2 = sym (none-asked j) ∙ q in omega arith);
+    }
+
+-- ---- any history
+
+state-words : (calls : List Call) (s : State) → (x : StateOf calls s) → Words (x .before)
+state-words calls s x = words-first (x .before) (x .rest) (subst Words (x .cut) (words-acts calls (x .typed)))
+
+state-good : (calls : List Call) (s : State) → StateOf calls s → Good s
+state-good calls s x = subst Good (sym (x .reached)) (good-through (x .before) resetState (state-words calls s x) (fine-reset, every-reset, lit-reset))
+
+moves-only : (calls : List Call) (s : State) → StateOf calls s → (p : ℕ) → p < 16 → position (tick s) p ≢ position s p → (b : Bool) → stepping s p ≡ b → (stepping s p ≡ true) × GroupShown p s
+unfolding position Every
+moves-only calls s x p l n true t = (t, ((state-good calls s x) .1 p l t) .1)
+moves-only calls s x p l n false t = absurd (n ((fades-tick s (state-good calls s x .0 .sized)) .places p t))
+
+-- ---- where a pin changes
+
+by-initialise : (j : ℕ) (s : State) → j < 16 → Lit s → Initialises j s (tick s) → ByInitialise j s
+unfolding part initialisedPart pinControl
+by-initialise j s l x q = record { pending = q .asked; level = ap (λ (y : Part). y .pin) (q .part) ∙ initialised-pin j s ((x .asked j l (q .asked)) .0) }
+
+module _ (j : ℕ) (s : State) (r : ReachedBy j s) (n : pin (tick s) j ≢ pin s j) where
+  reached : reaches s j (r .primary) ≡ true
+  unfolding reaches
+  reached = rw (r .up, le-leb (r .primary) j (r .above), le-leb j (last s (r .primary)) (r .below))
+
+  acted : (b : Bool) → actsAt ((channel s (r .primary)) .phase) ((tick s) .tcr1) ≡ b → pin (tick s) j ≡ pick b ((channel s j) .level) (pin s j) → ByMatch j s
+  acted true t q = record { primary = r .primary; reached = reached; level = inl (t, q) }
+  acted false t q = absurd (n q)
+
+  still : StillIs (r .primary) s (tick s) → ByMatch j s
+  unfolding pinAfterMatch
+  still y = acted (actsAt ((channel s (r .primary)) .phase) ((tick s) .tcr1)) refl ((y .channels j (r .above) (r .below)) .pin)
+
+  stepped : StepIs (r .primary) s (tick s) → ByMatch j s
+  unfolding pinAfterMatch
+  stepped y = by (due ((tick s) .tcr1) (y .match .time)) refl ((y .channels j (r .above) (r .below)) .pin)
+    where
+      by : (b : Bool) → due ((tick s) .tcr1) (y .match .time) ≡ b → pin (tick s) j ≡ pick b ((channel (tick s) j) .level) (pinAfterMatch (r .primary) j s (tick s)) → ByMatch j s
+      by true t q = record { primary = r .primary; reached = reached; level = inr (y .match .happens t, q) }
+      by false t q = acted (actsAt ((channel s (r .primary)) .phase) ((tick s) .tcr1)) refl q
+
+pins-only : (calls : List Call) (s : State) → StateOf calls s → (j : ℕ) → j < 16 → pin (tick s) j ≢ pin s j → (b : Bool) → isBound s j ≡ b → ByInitialise j s ⊎ ByMatch j s
+unfolding part Every
+pins-only calls s x j l n true t =
+    let e : Every s = (state-good calls s x) .1 in
+    let r : ReachedBy j s = reached-by j s l e t in
+    inr (⊎-elim (stepped j s r n) (still j s r n) (tick-is (r .primary) s ((e (r .primary) (r .small) (r .up)) .0) ((state-good calls s x) .0)))
+pins-only calls s x j l n false t =
+    let y : Good s = state-good calls s x in
+    ⊎-elim (λ q. absurd (n (ap (λ (z : Part). z .pin) q))) (λ q. inl (by-initialise j s l (y .2) q)) (tick-outcome s (y .0) (y .1) (y .2) j l t)
+
+pub always : Always
+unfolding Every channelControl
+always =
+    record {
+      shown = λ calls s x p l g. ((state-good calls s x) .1 p l g) .1;
+      rests = λ calls s x j l u i. (state-good calls s x) .2 .rests j l u i;
+      pins = λ calls s x j l n. pins-only calls s x j l n (isBound s j) refl;
+      moves = λ calls s x p l n. moves-only calls s x p l n (stepping s p) refl;
+    }

@@ -1,0 +1,224 @@
+-- Each tick of a run is one step as document 01 says, in every channel of the group, or leaves them alone.
+use Prim.Native.Nat.{ℕ, _≤_, _<_}
+use native.Mathlib.Omega.{arith}
+use native.Mathlib.Nat.{mod-eq-of-lt}
+use mathlib.Core.Bool.{Bool, true, false}
+use mathlib.Core.List.{List, [], _∷_}
+use mathlib.Core.Path.{_≡_, refl, ap, sym, subst, _∙_}
+use mathlib.Core.Logic.{_⊎_, inl, inr, ⊎-elim}
+use lib.Dec.{eqb}
+use borrow.Author.Tests.{eq-eqb, ne-eqb}
+use Rattle.words.specs.Choice.{pick}
+use Rattle.words.specs.Clock.{due, later}
+use Rattle.words.specs.Field.{field, withField, bitOf}
+use Rattle.words.proofs.FieldLaws.{field-set, field-above}
+use Rattle.words.proofs.RotationLaws.{right-bit, left-bit}
+use Rattle.motor.specs.declared.Way.{Way}
+use Rattle.motor.specs.declared.Way.the-variants.{Right, Left}
+use Rattle.motor.specs.declared.Motor.{Motor}
+use Rattle.motor.specs.declared.Phase.{Phase}
+use Rattle.motor.specs.declared.Phase.the-variants.{Resting, Requested, Armed, Matched}
+use Rattle.motor.specs.declared.Outcome.{Outcome}
+use Rattle.motor.specs.declared.Outcome.the-variants.{Arrived, Step}
+use Rattle.motor.specs.Stepping.{period, onRequest, onMatch, moved}
+use Rattle.motor.specs.Track.{NextTo, Valid, Serves}
+use Rattle.motor.specs.Group.{Group, armed, happened, SlowAtFirst}
+use Rattle.motor.specs.Group as group
+use Rattle.motor.specs.Count.{Running}
+use Rattle.motor.proofs.OneStep.{one-step}
+use Rattle.motor.proofs.OneTick.{happened-requested, tick-clock}
+use Rattle.unit.specs.declared.State.{State}
+use Rattle.unit.specs.TheUnit.{pin, channel, word, channelControl, pinControl, position, target, modCount, nextRate, top, last, cntl0, cntl1, enabled, motorOf}
+use Rattle.unit.specs.Stepping.{nextCount, turnedOnce}
+use Rattle.unit.specs.OneTick.{tick}
+use Rattle.history.specs.Moments.{Act, Ticks, Writes, Nothing as nothing, does, moments}
+use Rattle.history.specs.OneStep.{actsAt, pinAfterMatch, CountMoves, BitsTurn, topBit, ChannelSteps, MatchIs, StepIs, ChannelKeeps, StillIs, WholeSteps}
+use Rattle.unit.proofs.Access.{mod-small}
+use Rattle.history.proofs.Look.{look}
+use Rattle.history.proofs.Own.{View, viewIn, groupIn, view}
+use Rattle.history.proofs.Ticks.{viewTicked, view-tick, view-matches}
+use Rattle.history.proofs.Held.{Held}
+use Rattle.history.proofs.Fine.{Fine, small-word}
+use Rattle.history.proofs.Alone.{fades-tick}
+use Rattle.history.proofs.Parts.{Part, part, showPart, outcomePart, dueAtOnce, phasePart, part-tick}
+use Rattle.history.proofs.Chain.{Ahead, acts, running-held}
+use Rattle.history.proofs.Calls.{Words, fine-write}
+use Rattle.history.proofs.Fine.{fine-tick}
+
+-- ---- a part that a step has turned, in bits and numbers
+
+bits-turn : (w : Way) (x : ℕ) → x ≤ 0xffff → BitsTurn w x (turnedOnce w x)
+unfolding BitsTurn turnedOnce
+bits-turn Right x h = λ i l. right-bit x 1 i (omega arith) (omega arith) l
+bits-turn Left x h = λ i l. left-bit x 1 i (omega arith) (omega arith) l
+
+top-turn : (w : Way) (x : ℕ) → x ≤ 0xffff → bitOf (turnedOnce w x) 15 ≡ bitOf x (topBit w)
+unfolding bitOf topBit turnedOnce
+top-turn Right x h = ap (λ y. eqb y 1) (right-bit x 1 15 (omega arith) (omega arith) (omega arith))
+top-turn Left x h = ap (λ y. eqb y 1) (left-bit x 1 14 (omega arith) (omega arith) (omega arith))
+
+count-moves : (w : Way) (m : ℕ) → m < 16 → CountMoves w m (nextCount w m)
+unfolding CountMoves nextCount
+count-moves Right m h = refl
+count-moves Left m h = (omega arith, omega arith)
+
+pub count-small : (w : Way) (m : ℕ) → nextCount w m < 16
+unfolding nextCount
+count-small Right m = omega arith
+count-small Left m = omega arith
+
+-- word 4 after a step: MOD_CNT stands where it stood
+pub count-stands : (w4 m k : ℕ) → m < 16 → field 4 (withField 4 (withField 4 w4 8 m) 0 k) 8 ≡ m
+count-stands w4 m k h = field-above 4 (withField 4 w4 8 m) 0 k 4 8 (omega arith) ∙ field-set 4 w4 8 m ∙ mod-eq-of-lt h
+
+-- the count and each channel of the group, where each part has been turned
+module _ (c : ℕ) (s t : State) (f : Fine s) (w : Way) (k : ℕ) (acted already : Bool) where
+  counted : part c c t ≡ outcomePart already (Step w k) (showPart acted (part c c s)) → modCount t c ≡ nextCount w (modCount s c)
+  unfolding part outcomePart showPart modCount
+  counted e = ap (λ (q : Part). field 4 (q .fourth) 8) e ∙ count-stands (word s c 4) (nextCount w (field 4 (word s c 4) 8)) k (count-small w (field 4 (word s c 4) 8))
+
+  channel-steps : (j x : ℕ) → modCount t c ≡ nextCount w (modCount s c) → due (t .tcr1) x ≡ already → actsAt ((channel s c) .phase) (t .tcr1) ≡ acted
+      → part c j t ≡ outcomePart already (Step w k) (showPart acted (part c j s)) → ChannelSteps w x c j s t
+  unfolding part outcomePart showPart channelControl pinControl modCount pinAfterMatch
+  channel-steps j x m p q e =
+      record {
+        source = ap (λ (q : Part). q .source) e;
+        turned = λ n. subst (BitsTurn w (word s j 0)) (sym (ap (λ (q : Part). q .control) e ∙ rw (ne-eqb (nextCount w (field 4 (word s c 4) 8)) 0 (λ z. n (m ∙ z))) refl)) (bits-turn w (word s j 0) (small-word s j 0 f));
+        copied = λ n. ap (λ (q : Part). q .control) e ∙ rw (eq-eqb (nextCount w (field 4 (word s c 4) 8)) 0 (sym m ∙ n)) refl;
+        level = ap (λ (q : Part). q .level) e ∙ top-turn w (word s j 0) (small-word s j 0 f);
+        pin = ap (λ (y : Part). y .pin) e ∙ (λ i. pick (sym p i) (sym (ap (λ (y : Part). y .level) e) i) (pick (sym q i) ((channel s j) .level) (pin s j)));
+      }
+
+-- ---- a tick of a held primary
+
+-- where a step comes from
+abbrev From : ℕ → State → State → ℕ → Outcome → Type 0
+From c s t reference o =
+    (((channel s c) .phase ≡ Requested) × (reference ≡ t .tcr1) × (onRequest (motorOf s c) ≡ o)) ⊎ ((happened (t .tcr1) ((channel s c) .phase) ≡ Matched reference) × (onMatch (motorOf s c) ≡ o))
+
+module _ (c : ℕ) (s : State) (h : Held c s) (f : Fine s) where
+  abbrev t : State
+  t = tick s
+
+  abbrev g : Group
+  g = (view s c) .group
+
+  time : t .tcr1 ≡ later (s .tcr1) 1
+  unfolding view viewIn groupIn look viewTicked
+  time = ap (λ (v : View). v .group .clock) (view-tick c s (h .sized) (h .seen)) ∙ tick-clock g
+
+  pub ticked : (view t c) .group ≡ group.tick g
+  unfolding viewTicked
+  ticked = ap (λ (v : View). v .group) (view-tick c s (h .sized) (h .seen))
+
+  abbrev acted : Bool
+  acted = actsAt ((channel s c) .phase) (later (s .tcr1) 1)
+
+  acted-then : actsAt ((channel s c) .phase) (t .tcr1) ≡ acted
+  acted-then = ap (actsAt ((channel s c) .phase)) time
+
+  abbrev Ticked : Type 0
+  Ticked = StepIs c s t ⊎ StillIs c s t
+
+  -- a tick that leaves the motor, and each channel's part
+  keeps : (j : ℕ) → part c j t ≡ showPart acted (part c j s) → ChannelKeeps c j s t
+  unfolding part showPart channelControl pinControl pinAfterMatch
+  keeps j e = record { pin = ap (λ (q : Part). q .pin) e ∙ ap (λ b. pick b ((channel s j) .level) (pin s j)) (sym acted-then); control = ap (λ (q : Part). q .control) e; source = ap (λ (q : Part). q .source) e; level = ap (λ (q : Part). q .level) e }
+
+  still : (x : Group) → (view t c) .group ≡ x → x .motor ≡ g .motor → (x .phase ≡ happened (later (s .tcr1) 1) ((channel s c) .phase)) ⊎ ((x .phase ≡ Resting) × (position s c ≡ target s c))
+      → ((j : ℕ) → c ≤ j → j ≤ last s c → part c j t ≡ showPart acted (part c j s)) → Ticked
+  unfolding view viewIn groupIn look position target part showPart
+  still x e m p parts =
+      let q : (view t c) .group .motor ≡ g .motor = ap (λ (y : Group). y .motor) e ∙ m in
+      inr
+      record {
+        place = ap (λ (y : Motor). y .position) q;
+        faces = ap (λ (y : Motor). y .way) q;
+        rates = ap (λ (y : Part). y .fourth) (parts c (omega arith) (h .alone .spans));
+        aim = ap (λ (y : Motor). y .target) q;
+        span = fades-tick s (h .sized) .spans c;
+        phase = ⊎-elim (λ y. inl (ap (λ (z : Group). z .phase) e ∙ y ∙ ap (λ z. happened z ((channel s c) .phase)) (sym time))) (λ y. inr (ap (λ (z : Group). z .phase) e ∙ y .0, y .1)) p;
+        channels = λ j a b. keeps j (parts j a b);
+      }
+
+  -- a tick in which nothing of c is served
+  idle : (view t c) .group ≡ group.clocked g → ((j : ℕ) → c ≤ j → j ≤ last s c → part c j t ≡ showPart acted (part c j s)) → Ticked
+  unfolding view viewIn groupIn look group.clocked
+  idle e parts = still (group.clocked g) e refl (inl refl) parts
+
+  match-is : (reference : ℕ) (w : Way) (k : ℕ) → (view t c) .group ≡ group.outcome (group.clocked g) reference (Step w k) → MatchIs c reference s t
+  unfolding view viewIn groupIn look group.clocked group.outcome cntl0 cntl1 nextRate armed later
+  match-is reference w k e =
+      let x : ℕ = later reference (period (cntl0 s c) (cntl1 s c) (nextRate s c)) in
+      let p : (channel t c) .phase ≡ armed (t .tcr1) x = ap (λ (y : Group). y .phase) e ∙ ap (λ y. armed y x) (sym time) in
+      record { time = x; sum = refl; set = λ q. p ∙ rw q refl; happens = λ q. p ∙ rw q refl }
+
+  step-by : (reference : ℕ) (o : Outcome) → From c s t reference o → (view t c) .group ≡ group.outcome (group.clocked g) reference o
+      → ((j : ℕ) → c ≤ j → j ≤ last s c → part c j t ≡ outcomePart (dueAtOnce (group.clocked g) reference) o (showPart acted (part c j s))) → Serves (motorOf s c) o → Ticked
+  unfolding Serves group.outcome group.clocked view viewIn groupIn look moved motorOf position target nextRate top outcomePart dueAtOnce match-is cntl0 cntl1
+  step-by reference Arrived fr e parts d = still (group.outcome (group.clocked g) reference Arrived) e refl (inr (refl, d .reached)) parts
+  step-by reference (Step w k) fr e parts d =
+      let x : ℕ = later reference (period (cntl0 s c) (cntl1 s c) (nextRate s c)) in
+      let m : modCount t c ≡ nextCount w (modCount s c) = counted c s t f w k acted (dueAtOnce (group.clocked g) reference) (parts c (omega arith) (h .alone .spans)) in
+      inl
+      record {
+        way = w;
+        next = k;
+        reference = reference;
+        from = fr;
+        place = subst (NextTo w (position s c)) (sym (ap (λ (x : Group). x .motor .position) e)) (d .next);
+        faces = ap (λ (x : Group). x .motor .way) e;
+        rate = ap (λ (x : Group). x .motor .rate) e;
+        count = subst (CountMoves w (modCount s c)) (sym m) (count-moves w (modCount s c) (mod-small s c));
+        aim = ap (λ (x : Group). x .motor .target) e;
+        span = fades-tick s (h .sized) .spans c;
+        match = match-is reference w k e;
+        channels = λ j a b. channel-steps c s t f w k acted (dueAtOnce (group.clocked g) reference) j x m (ap (λ y. due y x) time) acted-then (parts j a b);
+      }
+
+  valid : Valid (motorOf s c)
+  unfolding view viewIn groupIn look motorOf position target nextRate top
+  valid = h .seen .sound .valid
+
+  slow : (channel s c) .phase ≡ Requested → (motorOf s c) .rate ≡ 1
+  unfolding view viewIn groupIn look motorOf nextRate SlowAtFirst
+  slow r = subst (λ p. SlowAtFirst p (nextRate s c)) r (h .seen .sound .slow)
+
+  -- by what is pending after the matches
+  step-phase : (p : Phase) → happened (later (s .tcr1) 1) ((channel s c) .phase) ≡ p → (view t c) .group ≡ group.serve p (group.clocked g)
+      → ((j : ℕ) → c ≤ j → j ≤ last s c → part c j t ≡ phasePart p (group.clocked g) (showPart acted (part c j s))) → Ticked
+  unfolding group.serve phasePart group.clocked view viewIn groupIn look motorOf position target nextRate top
+  step-phase Resting q e parts = idle e parts
+  step-phase Requested q e parts =
+      let r : (channel s c) .phase ≡ Requested = happened-requested _ ((channel s c) .phase) q in
+      step-by (later (s .tcr1) 1) (onRequest (motorOf s c)) (inl (r, sym time, refl)) e parts (one-step .on-request (motorOf s c) valid (slow r))
+  step-phase (Armed x) q e parts = idle e parts
+  step-phase (Matched x) q e parts =
+      step-by x (onMatch (motorOf s c)) (inr (ap (λ y. happened y ((channel s c) .phase)) time ∙ q, refl)) e parts (one-step .on-match (motorOf s c) valid)
+
+  -- the part of each channel, by the view after the matches
+  pub parts-turned : (j : ℕ) → c ≤ j → j ≤ last s c
+      → part c j t ≡ pick (enabled s c) (phasePart (happened (later (s .tcr1) 1) ((channel s c) .phase)) (group.clocked g) (showPart acted (part c j s))) (showPart acted (part c j s))
+  unfolding view viewIn groupIn look motorOf position target nextRate top group.clocked
+  parts-turned j a b =
+      part-tick c j s h a b
+      ∙ ap (λ (v : View). pick (v .group .enabled) (phasePart (v .group .phase) (v .group) (showPart acted (part c j s))) (showPart acted (part c j s))) (view-matches c s (h .sized) (h .seen))
+
+  pub tick-is : Ticked
+  unfolding group.tick group.clocked view viewIn groupIn look
+  tick-is = by (enabled s c) ticked parts-turned
+    where
+      by : (b : Bool) → (view t c) .group ≡ pick b (group.serve (happened (later (s .tcr1) 1) ((channel s c) .phase)) (group.clocked g)) (group.clocked g)
+          → ((j : ℕ) → c ≤ j → j ≤ last s c → part c j t ≡ pick b (phasePart (happened (later (s .tcr1) 1) ((channel s c) .phase)) (group.clocked g) (showPart acted (part c j s))) (showPart acted (part c j s))) → Ticked
+      by true e k = step-phase (happened (later (s .tcr1) 1) ((channel s c) .phase)) refl e k
+      by false e k = idle e k
+
+pub whole-steps : (c : ℕ) (xs : List Act) (s : State) → Ahead c s → Fine s → Words xs → Running (moments c s xs) → WholeSteps c s xs
+unfolding moments Running WholeSteps Words does
+whole-steps c [] s a f w r = tt
+whole-steps c (Ticks ∷ xs) s a f w r =
+    let h : Held c s = running-held c s a (r .0) in
+    (tick-is c s h f, whole-steps c xs (tick s) (acts c Ticks s h .ahead) (fine-tick s f) w (r .1))
+whole-steps c (Writes x v ∷ xs) s a f w r =
+    whole-steps c xs (does (Writes x v) s) (acts c (Writes x v) s (running-held c s a (r .0)) .ahead) (fine-write x v s (w .0) f) (w .1) (r .1)
+whole-steps c (nothing ∷ xs) s a f w r = whole-steps c xs s a f w (r .1)

@@ -1,0 +1,59 @@
+-- What holds in every history: a motor steps only where each of its channels was set up. The buyer's term 1; document 01, questions 5 to 7.
+use Prim.Native.Nat.{ℕ, _≤_, _<_}
+use mathlib.Core.Bool.{true, false}
+use mathlib.Core.List.{List, _++_}
+use mathlib.Core.Logic.{_≢_, _⊎_}
+use mathlib.Core.Path.{_≡_}
+use Rattle.words.specs.Field.{bitOf}
+use Rattle.words.specs.Rotation.{rotatedRight}
+use Rattle.motor.specs.declared.Phase.the-variants.{Matched}
+use Rattle.unit.specs.declared.State.{State}
+use Rattle.unit.specs.TheUnit.{resetState, pin, request, reaches, isBound, function, channel, word, channelControl, pinControl, position, modCount, last, stepping}
+use Rattle.history.specs.OneStep.{actsAt}
+use Rattle.unit.specs.OneTick.{tick}
+use Rattle.unit.specs.Gate.{otherwiseZero, spanGood}
+use Rattle.unit.specs.Calls.{Call}
+use Rattle.history.specs.Moments.{Act, acts, through, Typed}
+
+-- a channel of a group whose MOD_CNT is m: of function 13, initialised, its CHANNEL_CONTROL its PIN_CONTROL turned right by m
+pub record ChannelShown (m j : ℕ) (s : State) : Type 0 where
+  pub stepper : function s j ≡ 13
+  pub initialised : (channel s j) .initialised ≡ true
+  pub pattern : channelControl s j ≡ rotatedRight (pinControl s j) m
+
+-- the group of the primary p: words 4 and 5 well formed, and each of its channels
+pub record GroupShown (p : ℕ) (s : State) : Type 0 where
+  pub span : spanGood s p ≡ true
+  pub rates : otherwiseZero (word s p 4) ≡ true
+  pub channels : (j : ℕ) → p ≤ j → j ≤ last s p → ChannelShown (modCount s p) j s
+
+-- s is a state of the history of these calls: right after a call, or after a tick inside an advance
+pub record StateOf (calls : List Call) (s : State) : Type 0 where
+  pub typed : Typed calls
+  pub before : List Act
+  pub rest : List Act
+  pub cut : acts calls ≡ before ++ rest
+  pub reached : s ≡ through resetState before
+
+-- the initialise that was pending is done: the pin is bit 15 of PIN_CONTROL
+pub record ByInitialise (j : ℕ) (s : State) : Type 0 where
+  pub pending : request s j ≡ 2
+  pub level : pin (tick s) j ≡ bitOf (pinControl s j) 15
+
+-- a match of the group of `primary`, which has the channel, acts: the one that was set falls due, or the one of a step is already due at
+-- its set-up. The pin is the level prepared for it.
+pub record ByMatch (j : ℕ) (s : State) : Type 0 where
+  pub primary : ℕ
+  pub reached : reaches s j primary ≡ true
+  pub level : ((actsAt ((channel s primary) .phase) ((tick s) .tcr1) ≡ true) × (pin (tick s) j ≡ (channel s j) .level))
+      ⊎ (((channel (tick s) primary) .phase ≡ Matched ((tick s) .tcr1)) × (pin (tick s) j ≡ (channel (tick s) j) .level))
+
+pub record Always : Type 0 where
+  -- a bound group is set up and shows its pattern
+  pub shown : (calls : List Call) (s : State) → StateOf calls s → (p : ℕ) → p < 16 → stepping s p ≡ true → GroupShown p s
+  -- an initialised channel that is not bound shows bit 15 of its CHANNEL_CONTROL
+  pub rests : (calls : List Call) (s : State) → StateOf calls s → (j : ℕ) → j < 16 → isBound s j ≡ false → (channel s j) .initialised ≡ true → pin s j ≡ bitOf (channelControl s j) 15
+  -- where a tick changes a pin, its channel was initialised or a match of its group acted
+  pub pins : (calls : List Call) (s : State) → StateOf calls s → (j : ℕ) → j < 16 → pin (tick s) j ≢ pin s j → ByInitialise j s ⊎ ByMatch j s
+  -- a position changes in a tick only while its group is under way, so only while each of its channels is set up
+  pub moves : (calls : List Call) (s : State) → StateOf calls s → (p : ℕ) → p < 16 → position (tick s) p ≢ position s p → (stepping s p ≡ true) × GroupShown p s
