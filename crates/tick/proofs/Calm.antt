@@ -15,7 +15,7 @@ use Rattle.unit.specs.Pending.{isDue, isMatched}
 use Rattle.unit.proofs.Scans.{match-rests, passes-over, nothing-wanted}
 use Rattle.unit.proofs.Quiet.{each-rests}
 use Rattle.words.specs.Field.{field}
-use Rattle.tick.specs.Parts.{stirs}
+use Rattle.channel.specs.Service.{stirs}
 
 -- what holds below c and at c holds below c + 1
 pub calm-next : (c : ℕ) (f : ℕ → Bool) → ((j : ℕ) → j < c → f j ≡ false) → f c ≡ false → (j : ℕ) → j < c + 1 → f j ≡ false

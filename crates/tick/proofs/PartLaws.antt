@@ -9,7 +9,7 @@ use lib.ListN.{length, getD, set, length-set}
 use lib.Seq.{set-getD}
 use Rattle.words.specs.Choice.{pick}
 use Rattle.words.specs.Clock.{due, later}
-use Rattle.words.specs.Field.{field, withField, bitOf, bitValue}
+use Rattle.words.specs.Field.{withField, bitOf, bitValue}
 use Rattle.words.proofs.FieldLaws.{field-lt}
 use Rattle.motor.specs.declared.Way.{Way}
 use Rattle.motor.specs.declared.Phase.{Phase}
@@ -19,10 +19,12 @@ use Rattle.motor.specs.declared.Outcome.the-variants.{Arrived, Step}
 use Rattle.motor.specs.Stepping.{onRequest, onMatch}
 use Rattle.unit.specs.declared.Channel.{Channel}
 use Rattle.unit.specs.declared.State.{State}
-use Rattle.unit.specs.TheUnit.{idle, each, withPins, withPin, withReg, withRequest, withStatus, withWords, withWord, withChannel, withInitialised, withLevel, withPhase, channel, channelControl, pinControl, word, reg, hsrrOf, request, enabled, size, last, position, modCount, nextRate, cntl0, cntl1, motorOf}
+use Rattle.unit.specs.TheUnit.{idle, each, withPins, withPin, withReg, withRequest, withStatus, withWords, withWord, withChannel, withInitialised, withLevel, withPhase, channel, channelControl, pinControl, word, reg, hsrrOf, request, enabled, size, last, position, modCount, target, nextRate, top, cntl0, cntl1, motorOf}
 use Rattle.unit.specs.Stepping.{pinOut, pinsOut, turnedOnce, prepared, matchSet, stepped, outcome}
 use Rattle.unit.specs.OneTick.{initialise, stepRequest, requestServed, matchServed, served}
-use Rattle.tick.specs.Parts.{sizeIn, levelsOut, inPhase, isTested, reference, decided, setUp, requestDone, withLevelIn, periodIn, moved, bare, pinsAfter, standing, statusAfter, channelsAfter}
+use Rattle.channel.specs.Record.{withLevelIn, inPhase, standing}
+use Rattle.channel.specs.Service.{isTested, reference, decided, statusAfter}
+use Rattle.tick.specs.Parts.{sizeIn, levelsOut, motorIn, requestDone, periodIn, countIn, countedIn, levelIn, patternIn, moved, bare, pinsAfter, channelsAfter, decidedIn, timeIn, testedIn}
 
 -- ---- pins
 
@@ -64,18 +66,18 @@ moved-parts o c s = moved-over o c s (bare (s .words) (s .channels))
 
 -- ---- what was decided
 
--- a channel's record changed but for its level leaves the levels
-same-level : (y : List Channel) (c j : ℕ) (z : Channel) → z .level ≡ (getD y c idle) .level → (getD (set y c z) j idle) .level ≡ (getD y j idle) .level
-same-level [] c j z h = refl
-same-level (x ∷ y) zero zero z h = h
-same-level (x ∷ y) zero (suc j) z h = refl
-same-level (x ∷ y) (suc c) zero z h = refl
-same-level (x ∷ y) (suc c) (suc j) z h = same-level y c j z h
+-- what a channel's record keeps as it is changed, every channel keeps
+kept : {A : Type 0} (f : Channel → A) (y : List Channel) (c j : ℕ) (z : Channel) → f z ≡ f (getD y c idle) → f (getD (set y c z) j idle) ≡ f (getD y j idle)
+kept f [] c j z h = refl
+kept f (x ∷ y) zero zero z h = h
+kept f (x ∷ y) zero (suc j) z h = refl
+kept f (x ∷ y) (suc c) zero z h = refl
+kept f (x ∷ y) (suc c) (suc j) z h = kept f y c j z h
 
 levels-kept : (n c : ℕ) (y : List Channel) (z : Channel) (p : ℕ) → z .level ≡ (getD y c idle) .level → levelsOut n c (set y c z) p ≡ levelsOut n c y p
 unfolding levelsOut
 levels-kept zero c y z p h = refl
-levels-kept (suc n) c y z p h = rw (levels-kept n c y z p h, same-level y c (c + n) z h)
+levels-kept (suc n) c y z p h = rw (levels-kept n c y z p h, kept (λ x. x .level) y c (c + n) z h)
 
 pins-kept : (o : Outcome) (b : Bool) (y : List Channel) (p c n now time : ℕ) → pinsAfter o b (set y c (standing o (getD y c idle) now time)) p c n ≡ pinsAfter o b y p c n
 unfolding pinsAfter standing
@@ -105,11 +107,16 @@ as-parted (Step w k) s c r =
     ap (λ u. matchSet u c w time) (moved-parts (Step w k) c s) ∙ (set-match (due (s .tcr1) time) (over s t) c w time ∙ ap (λ l. record { words = t .words; regs = l; tcr1 = s .tcr1; pins = pick (due (s .tcr1) time) (levelsOut (size t c) c (t .channels) (s .pins)) (s .pins); channels = set (t .channels) c (inPhase (channel t c) w (pick (due (s .tcr1) time) (Matched (s .tcr1)) (Armed time))) }) (sym (set-getD (s .regs) 11 0)))
 
 -- the same, the pins worked out from the channels as they are then
-pub outcome-parts : (o : Outcome) (s : State) (c r : ℕ) → record { words = (moved o c (bare (s .words) (s .channels))) .words; regs = set (s .regs) 11 (statusAfter o (getD (s .regs) 11 0) c); tcr1 = s .tcr1; pins = pinsAfter o (due (s .tcr1) (later r (periodIn (s .words) c))) (channelsAfter o (s .words) (s .channels) c (s .tcr1) (later r (periodIn (s .words) c))) (s .pins) c (sizeIn (getD ((moved o c (bare (s .words) (s .channels))) .words) (8 * c + 5) 0) c); channels = channelsAfter o (s .words) (s .channels) c (s .tcr1) (later r (periodIn (s .words) c)) } ≡ outcome s c r o
+outcome-parts : (o : Outcome) (s : State) (c r : ℕ) → record { words = (moved o c (bare (s .words) (s .channels))) .words; regs = set (s .regs) 11 (statusAfter o (getD (s .regs) 11 0) c); tcr1 = s .tcr1; pins = pinsAfter o (due (s .tcr1) (later r (periodIn (s .words) c))) (channelsAfter o (s .words) (s .channels) c (s .tcr1) (later r (periodIn (s .words) c))) (s .pins) c (sizeIn (getD ((moved o c (bare (s .words) (s .channels))) .words) (8 * c + 5) 0) c); channels = channelsAfter o (s .words) (s .channels) c (s .tcr1) (later r (periodIn (s .words) c)) } ≡ outcome s c r o
 unfolding channelsAfter
 outcome-parts o s c r =
     let t = moved o c (bare (s .words) (s .channels)) in
     rw (pins-kept o (due (s .tcr1) (later r (periodIn (s .words) c))) (t .channels) (s .pins) c (sizeIn (getD (t .words) (8 * c + 5) 0) c) (s .tcr1) (later r (periodIn (s .words) c))) (sym (as-parted o s c r))
+
+-- a test, by what it decides
+pub test-parts : (s : State) (c : ℕ) (x : Channel) → x .way ≡ (channel s c) .way → record { words = (moved (decidedIn (s .words) c x) c (bare (s .words) (s .channels))) .words; regs = set (s .regs) 11 ((testedIn (decidedIn (s .words) c x) (timeIn (s .words) c x (s .tcr1)) (s .words) (s .channels) (s .pins) (getD (s .regs) 11 0) c (s .tcr1)) .status); tcr1 = s .tcr1; pins = (testedIn (decidedIn (s .words) c x) (timeIn (s .words) c x (s .tcr1)) (s .words) (s .channels) (s .pins) (getD (s .regs) 11 0) c (s .tcr1)) .pins; channels = (testedIn (decidedIn (s .words) c x) (timeIn (s .words) c x (s .tcr1)) (s .words) (s .channels) (s .pins) (getD (s .regs) 11 0) c (s .tcr1)) .channels } ≡ outcome s c (reference (x .phase) (s .tcr1)) (decided (x .phase) (motorOf s c))
+unfolding testedIn decidedIn timeIn motorOf position target nextRate top word
+test-parts s c x e = rw (← e) (outcome-parts (decided (x .phase) (motorIn (s .words) c (x .way))) s c (reference (x .phase) (s .tcr1)))
 
 -- ---- a service
 
@@ -135,6 +142,17 @@ first on r c s = pick (pick on (leb 2 r) false) (requestDone s c r) s
 abbrev pub then : Bool → ℕ → Phase → ℕ → State → State
 then on r p c t = pick (isTested on r p) (outcome t c (reference p (t .tcr1)) (decided p (motorOf t c))) t
 
+-- the request leaves the direction
+way-kept : (a b : Bool) (c : ℕ) (s : State) → (channel (pick a (pick b (initialise c (withRequest s c 0)) (withRequest s c 0)) s) c) .way ≡ (channel s c) .way
+unfolding channel initialise withRequest withStatus withReg withInitialised withChannel withWord withWords withPin withPins
+way-kept true true c s = kept (λ x. x .way) (s .channels) c c _ refl
+way-kept true false c s = refl
+way-kept false b c s = refl
+
+pub same-way : (on : Bool) (r c : ℕ) (s t : State) → t ≡ first on r c s → (channel s c) .way ≡ (channel t c) .way
+unfolding requestDone
+same-way on r c s t e = rw e (sym (way-kept (pick on (leb 2 r) false) (eqb r 2) c s))
+
 in-turn : (on : Bool) (r : ℕ) (p : Phase) (c : ℕ) (s : State) → r < 4 → then on r p c (first on r c s) ≡ pick on (matchServed p c (pick (eqb r 2) (initialise c (withRequest s c 0)) (pick (eqb r 3) (stepRequest p c (withRequest s c 0)) s))) s
 unfolding isTested reference decided requestDone matchServed stepRequest
 in-turn false r Resting c s h = refl
@@ -146,23 +164,39 @@ in-turn true r Requested c s h = asked-to-step r (λ t. outcome t c (t .tcr1) (o
 in-turn true r (Armed time) c s h = asked r (initialise c (withRequest s c 0)) (withRequest s c 0) s h
 in-turn true r (Matched captured) c s h = ap (λ t. outcome t c captured (onMatch (motorOf t c))) (asked r (initialise c (withRequest s c 0)) (withRequest s c 0) s h)
 
-pub served-in-turn : (s : State) (c : ℕ) → then (enabled s c) (request s c) ((channel s c) .phase) c (first (enabled s c) (request s c) c s) ≡ served c s
+served-in-turn : (s : State) (c : ℕ) → then (enabled s c) (request s c) ((channel s c) .phase) c (first (enabled s c) (request s c) c s) ≡ served c s
 unfolding served requestServed request
 served-in-turn s c = in-turn (enabled s c) (request s c) ((channel s c) .phase) c s (omega (arith, field-lt 2 (reg s (hsrrOf c)) (2 * (c % 8))))
 
 -- ---- one channel: word 0 is found without adding 0
 
-pub prepared-channels : (w : Way) (m j at : ℕ) (t : State) (l : List ℕ) (x : List Channel) → at ≡ 8 * j + 0 → x ≡ t .channels → l ≡ t .words → set x j (withLevelIn (getD x j idle) (bitOf (turnedOnce w (getD l at 0)) 15)) ≡ (prepared w m j t) .channels
+channels-at : (w : Way) (m j at : ℕ) (t : State) (l : List ℕ) (x : List Channel) → at ≡ 8 * j + 0 → x ≡ t .channels → l ≡ t .words → set x j (withLevelIn (getD x j idle) (bitOf (turnedOnce w (getD l at 0)) 15)) ≡ (prepared w m j t) .channels
 unfolding prepared withLevel withWord withWords withChannel channel channelControl word
-prepared-channels w m j at t l x z e f = rw (z, e, f) refl
+channels-at w m j at t l x z e f = rw (z, e, f) refl
 
-pub prepared-words : (w : Way) (m j at : ℕ) (t : State) (l : List ℕ) → at ≡ 8 * j + 0 → l ≡ t .words → set l at (pick (eqb m 0) (getD l (8 * j + 1) 0) (turnedOnce w (getD l at 0))) ≡ (prepared w m j t) .words
+pub prepared-channels : (w : Way) (m j : ℕ) (t : State) (l : List ℕ) (x : List Channel) → x ≡ t .channels → l ≡ t .words → set x j (withLevelIn (getD x j idle) (levelIn w l j)) ≡ (prepared w m j t) .channels
+unfolding levelIn
+prepared-channels w m j t l x e f = channels-at w m j (8 * j) t l x (omega arith) e f
+
+words-at : (w : Way) (m j at : ℕ) (t : State) (l : List ℕ) → at ≡ 8 * j + 0 → l ≡ t .words → set l at (pick (eqb m 0) (getD l (8 * j + 1) 0) (turnedOnce w (getD l at 0))) ≡ (prepared w m j t) .words
 unfolding prepared withLevel withWord withWords withChannel channelControl pinControl word
-prepared-words w m j at t l z f = rw (z, f) refl
+words-at w m j at t l z f = rw (z, f) refl
 
-pub initialise-parts : (s : State) (c at : ℕ) → at ≡ 8 * c + 0 → record { words = set (s .words) at (getD (s .words) (8 * c + 1) 0); regs = set (s .regs) 11 (withField 1 (getD (s .regs) 11 0) c 1); tcr1 = s .tcr1; pins = withField 1 (s .pins) c (bitValue (eqb (field 2 (getD (s .words) at 0) 0) 1)); channels = set (s .channels) c (setUp (getD (s .channels) c idle)) } ≡ initialise c s
-unfolding initialise withStatus withReg reg withInitialised withChannel channel withWord withWords withPin withPins word channelControl pinControl
-initialise-parts s c at z = rw z refl
+pub prepared-words : (w : Way) (m j : ℕ) (t : State) (l : List ℕ) → l ≡ t .words → patternIn w m l j ≡ (prepared w m j t) .words
+unfolding patternIn
+prepared-words w m j t l f = words-at w m j (8 * j) t l (omega arith) f
+
+-- the group: the primary's counts, then each channel
+moved-step : (w : Way) (k c : ℕ) (l : List ℕ) (x : List Channel) → moved (Step w k) c (bare l x) ≡ each (sizeIn (getD l (8 * c + 5) 0) c) c (prepared w (countIn w l c)) (bare (countedIn w k l c) x)
+unfolding moved size last modCount position word withWord withWords countIn countedIn
+moved-step w k c l x = refl
+
+pub step-moves : (o : Outcome) (w : Way) (k c n m : ℕ) (l m-words : List ℕ) (x : List Channel) → o ≡ Step w k → n ≡ sizeIn (getD l (8 * c + 5) 0) c → m ≡ countIn w l c → m-words ≡ countedIn w k l c → each n c (prepared w m) (bare m-words x) ≡ moved o c (bare l x)
+step-moves o w k c n m l m-words x a b d e = rw (a, b, d, e) (sym (moved-step w k c l x))
+
+pub arrival-moves : (o : Outcome) (c : ℕ) (s : State) → o ≡ Arrived → s ≡ moved o c s
+unfolding moved
+arrival-moves o c s a = rw a
 
 -- ---- the scans
 
@@ -186,12 +220,36 @@ served-by s t u c on r e f g h = h ∙ (ap (then on r ((channel s c) .phase) c) 
 
 -- ---- the words keep their number
 
-each-long : (n c : ℕ) (w : Way) (m : ℕ) (t : State) → length ((each n c (prepared w m) t) .words) ≡ length (t .words)
+prepared-long : (n c : ℕ) (w : Way) (m : ℕ) (t : State) → length ((each n c (prepared w m) t) .words) ≡ length (t .words)
 unfolding each prepared withLevel withWord withWords withChannel
-each-long zero c w m t = refl
-each-long (suc n) c w m t = rw length-set (each-long n c w m t)
+prepared-long zero c w m t = refl
+prepared-long (suc n) c w m t = rw length-set (prepared-long n c w m t)
 
-pub moved-long : (o : Outcome) (c : ℕ) (t : State) → length ((moved o c t) .words) ≡ length (t .words)
+moved-long : (o : Outcome) (c : ℕ) (t : State) → length ((moved o c t) .words) ≡ length (t .words)
 unfolding moved withWord withWords
 moved-long Arrived c t = refl
-moved-long (Step w k) c t = each-long (size t c) c w _ _ ∙ rw (length-set, length-set) refl
+moved-long (Step w k) c t = prepared-long (size t c) c w _ _ ∙ rw (length-set, length-set) refl
+
+first-long : (a b : Bool) (c : ℕ) (s : State) → length ((pick a (pick b (initialise c (withRequest s c 0)) (withRequest s c 0)) s) .words) ≡ length (s .words)
+unfolding initialise withRequest withStatus withReg withInitialised withChannel withWord withWords withPin withPins
+first-long true true c s = rw length-set
+first-long true false c s = refl
+first-long false b c s = refl
+
+then-long : (b : Bool) (o : Outcome) (c r : ℕ) (t : State) → length ((pick b (outcome t c r o) t) .words) ≡ length (t .words)
+then-long true o c r t = rw (← outcome-parts o t c r) (moved-long o c (bare (t .words) (t .channels)))
+then-long false o c r t = refl
+
+served-long : (c : ℕ) (s : State) → length ((served c s) .words) ≡ length (s .words)
+unfolding requestDone
+served-long c s =
+    let on = enabled s c in
+    let r = request s c in
+    let p = (channel s c) .phase in
+    let t = first on r c s in
+    rw (← served-in-turn s c) (then-long (isTested on r p) (decided p (motorOf t c)) c (reference p (t .tcr1)) t ∙ first-long (pick on (leb 2 r) false) (eqb r 2) c s)
+
+pub all-served-long : (n : ℕ) (s : State) → length ((each n 0 served s) .words) ≡ length (s .words)
+unfolding each
+all-served-long zero s = refl
+all-served-long (suc n) s = served-long (0 + n) (each n 0 served s) ∙ all-served-long n s

@@ -1,17 +1,17 @@
 // One tick: the clock, then the matches, then the services, channel by channel. The state is copied nowhere on the way but for a
 // request: the scans look at small values, and a match or a step changes the parts of the state in place.
 mod matches;
-mod service;
+mod request;
 mod step;
 
 ghost use mathlib.Core.Path.{_≡_};
 ghost use Rattle.unit.specs.TheUnit.{each};
 ghost use Rattle.unit.specs.OneTick.{matched, served, tick};
-use access::pending;
-use access::registers;
+use channel::pending;
+use channel::record;
+use channel::service;
 use unit::State;
 use words::clock;
-use words::field;
 
 fn match_all(mut s: State) -> State
     ensures { λ r. ⌜ r ≡ each 16 0 matched s ⌝ }
@@ -20,9 +20,9 @@ fn match_all(mut s: State) -> State
         let x = s.channels[c as usize];
         let phase = x.phase;
         if pending::is_due(phase, s.tcr1) {
-            let n = group::size_in(s.words[8 * (c as usize) + 5], c);
+            let n = matches::size_of(&s.words, c);
             s.pins = matches::levels_out(s.channels, s.pins, c, n);
-            s.channels[c as usize] = matches::happened(x, s.tcr1);
+            s.channels[c as usize] = record::happened(x, s.tcr1);
         }
     }
     s
@@ -34,19 +34,21 @@ fn serve_all(mut s: State) -> State
     for c in 0..16 {
         let x = s.channels[c as usize];
         let phase = x.phase;
-        let r = field::pair(s.regs[registers::hsrr_of(c) as usize], c);
-        let on = field::pair(s.regs[registers::cpr_of(c) as usize], c) != 0;
+        let r = request::pending(&s.regs, c);
+        let on = request::is_enabled(&s.regs, c);
         if service::is_asked(on, r) {
-            s = service::request_done(s, c, r);
+            s = request::done(s, c, r);
         }
         if service::is_tested(on, r, phase) {
-            let y = s.channels[c as usize];
-            let way = y.way;
-            let p = step::planned(&s.words, c, phase, way, s.tcr1);
             let before = s.channels;
-            s.channels = step::moved(&mut s.words, before, c, p);
-            s.pins = step::pins_after(p, s.channels, s.pins, c, s.words[8 * (c as usize) + 5]);
-            s.regs[11] = step::status_after(p, s.regs[11], c);
+            let pins = s.pins;
+            let status = s.regs[11];
+            let now = s.tcr1;
+            let t = step::tested(&mut s.words, before, pins, status, c, x, now);
+            let after = t.channels;
+            s.channels = after;
+            s.pins = t.pins;
+            s.regs[11] = t.status;
         }
     }
     s

@@ -1,16 +1,22 @@
-// Matches: which one is due, and what it does to the pins and to its channel.
+// Matches: whether one may be due, and what it does to the pins.
 ghost use mathlib.Core.Path.{_≡_};
 ghost use mathlib.Core.Bool.{true, false};
-ghost use Prim.Native.Nat.{ℕ, _+_, _≤_, _<_};
+ghost use Prim.Native.Nat.{ℕ, _+_, _*_, _≤_, _<_};
 ghost use lib.ListN.{getD};
 ghost use Rattle.unit.specs.TheUnit.{idle};
-ghost use Rattle.motor.specs.declared.Phase.the-variants.{Matched};
-ghost use Rattle.tick.specs.Parts.{levelsOut, inPhase, stirs};
-use motor::Phase;
-use motor::Way;
+ghost use Rattle.channel.specs.Service.{stirs};
+ghost use Rattle.tick.specs.Parts.{sizeIn, levelsOut};
+use channel::service;
 use unit::Channel;
-use words::clock;
 use words::field;
+
+// How many channels the group of c has, none of them past the last of the unit.
+pub fn size_of(words: &[u16; 128], c: u16) -> u16
+    requires { ⌜ c < 16 ⌝ }
+    ensures { λ r. ⌜ (r ≡ sizeIn (getD (now (words .entry)) (8 * c + 5) 0) c) × (c + r ≤ 16) ⌝ }
+{
+    group::size_in(words[8 * (c as usize) + 5], c)
+}
 
 // The pins after those of n channels from c on have taken their prepared levels.
 pub fn levels_out(channels: [Channel; 16], mut pins: u16, c: u16, n: u16) -> u16
@@ -21,37 +27,6 @@ pub fn levels_out(channels: [Channel; 16], mut pins: u16, c: u16, n: u16) -> u16
         pins = field::with_bit(pins, c + k, channels[(c + k) as usize].level);
     }
     pins
-}
-
-pub fn in_phase(x: Channel, way: Way, phase: Phase) -> Channel
-    ensures { λ r. ⌜ r ≡ inPhase x way phase ⌝ }
-{
-    Channel {
-        initialised: x.initialised,
-        level: x.level,
-        way: way,
-        phase: phase,
-    }
-}
-
-// TCR1 is captured; the direction stays.
-pub fn happened(x: Channel, now: u16) -> Channel
-    ensures { λ r. ⌜ r ≡ inPhase x (x .way) (Matched now) ⌝ }
-{
-    let way = x.way;
-    in_phase(x, way, Phase::Matched(now))
-}
-
-// A match of a group in this phase is due, or has happened.
-fn stirs(p: Phase, now: u16) -> bool
-    ensures { λ r. ⌜ r ≡ stirs p now ⌝ }
-{
-    match p {
-        Phase::Resting => false,
-        Phase::Requested => false,
-        Phase::Armed(time) => clock::due(now, time),
-        Phase::Matched(_) => true,
-    }
 }
 
 // With these words of requests and these channels nothing happens now. It says no sooner than it must: a channel may be disabled.
@@ -67,7 +42,7 @@ pub fn is_calm(hsrr0: u16, hsrr1: u16, channels: [Channel; 16], now: u16) -> boo
     for c in 0..16 {
         let x = channels[c];
         let phase = x.phase;
-        if stirs(phase, now) {
+        if service::stirs(phase, now) {
             return false;
         }
     }

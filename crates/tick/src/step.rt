@@ -1,94 +1,24 @@
-// What was decided, part by part: words and levels of the group, pins, phase, status.
+// The test of a motor: what it decides, and what that makes of the parts of the state.
 ghost use mathlib.Core.Path.{_≡_};
-ghost use Prim.Native.Nat.{_<_, _≤_, _+_};
-ghost use lib.Dec.{eqb};
+ghost use Prim.Native.Nat.{_+_, _*_, _<_, _≤_};
 ghost use lib.ListN.{length, getD};
-ghost use Rattle.words.specs.Choice.{pick};
-ghost use Rattle.words.specs.Clock.{due, later};
+ghost use Rattle.words.specs.Clock.{due};
 ghost use Rattle.unit.specs.TheUnit.{each};
-ghost use Rattle.unit.specs.Stepping.{nextCount, turnedOnce, prepared};
-ghost use Rattle.tick.specs.Parts.{reference, decided, motorIn, withLevelIn, periodIn, moved, bare, sizeIn, pinsAfter, standing, statusAfter, channelsAfter};
+ghost use Rattle.unit.specs.Stepping.{prepared};
+ghost use Rattle.channel.specs.Record.{withLevelIn};
+ghost use Rattle.tick.specs.Parts.{motorIn, periodIn, countIn, countedIn, levelIn, patternIn, moved, bare, sizeIn, pinsAfter, channelsAfter, decidedIn, timeIn, testedIn};
 use crate::matches;
+use channel::pattern;
+use channel::record;
+use channel::service;
+use channel::service::Plan;
 use motor::Motor;
 use motor::Outcome;
-use motor::Phase;
 use motor::Way;
 use motor::step;
 use unit::Channel;
 use words::clock;
 use words::field;
-use words::rotation;
-
-// MOD_CNT after a step.
-fn next_count(way: Way, m: u16) -> u16
-    requires { ⌜ m < 16 ⌝ }
-    ensures { λ r. ⌜ r ≡ nextCount way m ⌝ }
-{
-    match way {
-        Way::Right => (m + 1) % 16,
-        Way::Left => (m + 15) % 16,
-    }
-}
-
-// CHANNEL_CONTROL after a step.
-fn turned_once(way: Way, x: u16) -> u16
-    ensures { λ r. ⌜ r ≡ turnedOnce way x ⌝ }
-{
-    match way {
-        Way::Right => rotation::rotate_right(x, 1),
-        Way::Left => rotation::rotate_left(x, 1),
-    }
-}
-
-// After sixteen steps the pattern comes anew from PIN_CONTROL.
-fn reloaded(m: u16, source: u16, x: u16) -> u16
-    ensures { λ r. ⌜ r ≡ pick (eqb m 0) source x ⌝ }
-{
-    if m == 0 { source } else { x }
-}
-
-fn with_level(x: Channel, on: bool) -> Channel
-    ensures { λ r. ⌜ r ≡ withLevelIn x on ⌝ }
-{
-    let way = x.way;
-    let phase = x.phase;
-    Channel {
-        initialised: x.initialised,
-        level: on,
-        way: way,
-        phase: phase,
-    }
-}
-
-// What was decided, and when: now, and the time for which a step sets its match.
-pub struct Plan {
-    pub outcome: Outcome,
-    pub now: u16,
-    pub time: u16,
-}
-
-// The captured time, or TCR1 for a request.
-fn reference(p: Phase, now: u16) -> u16
-    ensures { λ r. ⌜ r ≡ reference p now ⌝ }
-{
-    match p {
-        Phase::Resting => now,
-        Phase::Requested => now,
-        Phase::Armed(_) => now,
-        Phase::Matched(captured) => captured,
-    }
-}
-
-fn decided(p: Phase, m: Motor) -> Outcome
-    ensures { λ r. ⌜ r ≡ decided p m ⌝ }
-{
-    match p {
-        Phase::Resting => decision::on_request(m),
-        Phase::Requested => decision::on_request(m),
-        Phase::Armed(_) => decision::on_request(m),
-        Phase::Matched(_) => decision::on_match(m),
-    }
-}
 
 // A word, or 0 where there is none: a primary at channel 15 has no channel after it.
 fn word_at(words: &[u16; 128], at: usize) -> u16
@@ -112,102 +42,145 @@ fn period_of(words: &[u16; 128], c: u16) -> u16
 }
 
 fn motor_in(words: &[u16; 128], c: u16, way: Way) -> Motor
-    requires { ⌜ c < 16 ⌝ }
+    requires { ⌜ (c < 16) × (length (now words) ≡ 128) ⌝ }
     ensures { λ r. ⌜ r ≡ motorIn (now (words .entry)) c way ⌝ }
 {
     let at = 8 * (c as usize);
     Motor {
-        position: words[at + 2],
-        target: words[at + 3],
-        rate: field::nibble(words[at + 4], 0),
-        top: field::nibble(words[at + 5], 2),
+        position: word_at(words, at + 2),
+        target: word_at(words, at + 3),
+        rate: field::nibble(word_at(words, at + 4), 0),
+        top: field::nibble(word_at(words, at + 5), 2),
         way: way,
     }
 }
 
-pub fn planned(words: &[u16; 128], c: u16, phase: Phase, way: Way, tcr1: u16) -> Plan
+// The test of the motor of c, by the channel's record as the service began.
+fn planned(words: &[u16; 128], c: u16, x: Channel, tcr1: u16) -> Plan
     requires { ⌜ (c < 16) × (length (now words) ≡ 128) ⌝ }
-    ensures { λ r. ⌜ r ≡ record { outcome = decided phase (motorIn (now (words .entry)) c way); now = tcr1; time = later (reference phase tcr1) (periodIn (now (words .entry)) c) } ⌝ }
+    ensures { λ r. ⌜ r ≡ record { outcome = decidedIn (now (words .entry)) c x; now = tcr1; time = timeIn (now (words .entry)) c x tcr1 } ⌝ }
 {
-    let o = decided(phase, motor_in(words, c, way));
+    let way = x.way;
+    let phase = x.phase;
+    let o = service::decided(phase, motor_in(words, c, way));
     Plan {
         outcome: o,
         now: tcr1,
-        time: clock::later(reference(phase, tcr1), period_of(words, c)),
+        time: clock::later(service::reference(phase, tcr1), period_of(words, c)),
     }
 }
 
-// The words and channels of the group after what was decided, the match of a step among them.
-pub fn moved(words: &mut [u16; 128], mut channels: [Channel; 16], c: u16, p: Plan) -> [Channel; 16]
+// Position, MOD_CNT and rate of the primary c after a step. The answer is MOD_CNT.
+fn counted(words: &mut [u16; 128], c: u16, way: Way, k: u16) -> u16
+    requires { ⌜ c < 16 ⌝ }
+    ensures { λ r. ⌜ (r ≡ countIn way (now (words .entry)) c) × (now (words .exit) ≡ countedIn way k (now (words .entry)) c) ⌝ }
+{
+    let at = 8 * (c as usize);
+    let w = words[at + 4];
+    let m = pattern::next_count(way, field::nibble(w, 2));
+    words[at + 2] = step::beside(way, words[at + 2]);
+    words[at + 4] = pattern::counted(w, m, k);
+    m
+}
+
+// The channel j of the group after a step: its pattern, and its record, which was x. MOD_CNT is m then.
+fn prepared(words: &mut [u16; 128], x: Channel, j: usize, way: Way, m: u16) -> Channel
+    requires { ⌜ j < 16 ⌝ }
+    ensures { λ r. ⌜ (r ≡ withLevelIn x (levelIn way (now (words .entry)) j)) × (now (words .exit) ≡ patternIn way m (now (words .entry)) j) ⌝ }
+{
+    let at = 8 * j;
+    let turned = pattern::turned_once(way, words[at]);
+    words[at] = pattern::reloaded(m, words[at + 1], turned);
+    record::with_level(x, field::bit(turned, 15))
+}
+
+// The same of n channels from c on.
+fn all_prepared(
+    words: &mut [u16; 128],
+    mut channels: [Channel; 16],
+    c: u16,
+    n: u16,
+    way: Way,
+    m: u16,
+) -> [Channel; 16]
+    requires { ⌜ c + n ≤ 16 ⌝ }
+    ensures { λ r. ⌜ (r ≡ (each n c (prepared way m) (bare (now (words .entry)) channels)) .channels) × (now (words .exit) ≡ (each n c (prepared way m) (bare (now (words .entry)) channels)) .words) ⌝ }
+{
+    for i in 0..n {
+        let j = (c + i) as usize;
+        channels[j] = prepared(words, channels[j], j, way, m);
+    }
+    channels
+}
+
+// The words and channels of the group after what was decided; the match is not set yet.
+fn stepped(words: &mut [u16; 128], channels: [Channel; 16], c: u16, o: Outcome) -> [Channel; 16]
+    requires { ⌜ c < 16 ⌝ }
+    ensures { λ r. ⌜ (r ≡ (moved o c (bare (now (words .entry)) channels)) .channels) × (now (words .exit) ≡ (moved o c (bare (now (words .entry)) channels)) .words) ⌝ }
+{
+    match o {
+        Outcome::Arrived => channels,
+        Outcome::Step(way, k) => {
+            let n = matches::size_of(words, c);
+            let m = counted(words, c, way, k);
+            all_prepared(words, channels, c, n, way, m)
+        }
+    }
+}
+
+// The same, with the match of a step set.
+fn moved(words: &mut [u16; 128], channels: [Channel; 16], c: u16, p: Plan) -> [Channel; 16]
     requires { ⌜ c < 16 ⌝ }
     ensures { λ r. ⌜ (r ≡ channelsAfter (p .outcome) (now (words .entry)) channels c (p .now) (p .time)) × (now (words .exit) ≡ (moved (p .outcome) c (bare (now (words .entry)) channels)) .words) ⌝ }
 {
     let o = p.outcome;
-    let at = 8 * (c as usize);
-    match o {
-        Outcome::Arrived => {}
-        Outcome::Step(way, k) => {
-            let w = words[at + 4];
-            let m = next_count(way, field::nibble(w, 2));
-            let n = group::size_in(words[at + 5], c);
-            words[at + 2] = step::beside(way, words[at + 2]);
-            words[at + 4] = field::with_nibble(field::with_nibble(w, 2, m), 0, k);
-            for i in 0..n {
-                let j = (c + i) as usize;
-                let x = turned_once(way, words[8 * j]);
-                words[8 * j] = reloaded(m, words[8 * j + 1], x);
-                channels[j] = with_level(channels[j], field::bit(x, 15));
-            }
-        }
-    }
-    channels[c as usize] = standing(p, channels[c as usize]);
-    channels
+    let mut next = stepped(words, channels, c, o);
+    next[c as usize] = record::standing(p, next[c as usize]);
+    next
 }
 
-// Where a match is due as it is set, the pins change there. w is word 5 of the primary.
-pub fn pins_after(p: Plan, channels: [Channel; 16], pins: u16, c: u16, w: u16) -> u16
+// Where a match is due as it is set, the pins change there.
+fn pins_after(words: &[u16; 128], p: Plan, channels: [Channel; 16], pins: u16, c: u16) -> u16
     requires { ⌜ c < 16 ⌝ }
-    ensures { λ r. ⌜ r ≡ pinsAfter (p .outcome) (due (p .now) (p .time)) channels pins c (sizeIn w c) ⌝ }
+    ensures { λ r. ⌜ r ≡ pinsAfter (p .outcome) (due (p .now) (p .time)) channels pins c (sizeIn (getD (now (words .entry)) (8 * c + 5) 0) c) ⌝ }
 {
     let o = p.outcome;
     match o {
         Outcome::Arrived => pins,
         Outcome::Step(_, _) => {
             if clock::due(p.now, p.time) {
-                return matches::levels_out(channels, pins, c, group::size_in(w, c));
+                return matches::levels_out(channels, pins, c, matches::size_of(words, c));
             }
             pins
         }
     }
 }
 
-// At rest, or with a match set for its time, which may have happened there.
-fn standing(p: Plan, x: Channel) -> Channel
-    ensures { λ r. ⌜ r ≡ standing (p .outcome) x (p .now) (p .time) ⌝ }
-{
-    let o = p.outcome;
-    match o {
-        Outcome::Arrived => {
-            let way = x.way;
-            matches::in_phase(x, way, Phase::Resting)
-        }
-        Outcome::Step(way, _) => {
-            if clock::due(p.now, p.time) {
-                return matches::in_phase(x, way, Phase::Matched(p.now));
-            }
-            matches::in_phase(x, way, Phase::Armed(p.time))
-        }
-    }
+// What a test makes of the parts beside the words.
+pub struct Effect {
+    pub channels: [Channel; 16],
+    pub pins: u16,
+    pub status: u16,
 }
 
-// The status bit of c is set where its motor has arrived.
-pub fn status_after(p: Plan, cisr: u16, c: u16) -> u16
-    requires { ⌜ c < 16 ⌝ }
-    ensures { λ r. ⌜ r ≡ statusAfter (p .outcome) cisr c ⌝ }
+// A test of the motor of c, x being the channel's record as the service began.
+pub fn tested(
+    words: &mut [u16; 128],
+    channels: [Channel; 16],
+    pins: u16,
+    status: u16,
+    c: u16,
+    x: Channel,
+    tcr1: u16,
+) -> Effect
+    requires { ⌜ (c < 16) × (length (now words) ≡ 128) ⌝ }
+    ensures { λ r. ⌜ (r ≡ testedIn (decidedIn (now (words .entry)) c x) (timeIn (now (words .entry)) c x tcr1) (now (words .entry)) channels pins status c tcr1) × (now (words .exit) ≡ (moved (decidedIn (now (words .entry)) c x) c (bare (now (words .entry)) channels)) .words) ⌝ }
 {
-    let o = p.outcome;
-    match o {
-        Outcome::Arrived => field::with_bit(cisr, c, true),
-        Outcome::Step(_, _) => cisr,
+    let p = planned(words, c, x, tcr1);
+    let next = moved(words, channels, c, p);
+    Effect {
+        channels: next,
+        pins: pins_after(words, p, next, pins, c),
+        status: service::status_after(p, status, c),
     }
 }

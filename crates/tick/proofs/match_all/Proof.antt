@@ -7,7 +7,7 @@ use Rattle.unit.specs.TheUnit.{each, channel}
 use Rattle.unit.specs.OneTick.{matched}
 use Rattle.unit.proofs.Scans.{match-acts, match-rests}
 use Rattle.access.proofs.Loops.{each-next}
-use Rattle.tick.proofs.PartLaws.{match-parts, in-sixteen}
+use Rattle.tick.proofs.PartLaws.{match-parts}
 use Rattle.tick.proofs.match_all.Statement.{statement}
 use Rattle.tick.proofs.match_all.Tie as tie
 
@@ -33,37 +33,20 @@ element-copy-out-x c = search needs
 is-due-requires : tie.Need-is-due-requires Inv-loop μ-loop
 is-due-requires c κs = search needs
 
-cast-size-in : tie.Need-cast-size-in Inv-loop μ-loop
-cast-size-in c = search needs
-
-mul-size-in : tie.Need-mul-size-in Inv-loop μ-loop
-mul-size-in c = search needs
-
-add-size-in : tie.Need-add-size-in Inv-loop μ-loop
-add-size-in c = search needs
-
-mul-size-in-2 : tie.Need-mul-size-in-2 Inv-loop μ-loop
-mul-size-in-2 c = search needs
-
-element-copy-out-size-in : tie.Need-element-copy-out-size-in Inv-loop μ-loop
-element-copy-out-size-in c = search needs
-
-size-in-requires : tie.Need-size-in-requires Inv-loop μ-loop
-size-in-requires c κs = search needs
+size-of-requires : tie.Need-size-of-requires Inv-loop μ-loop
+size-of-requires c κs = search needs
 
 levels-out-requires : tie.Need-levels-out-requires Inv-loop μ-loop
-levels-out-requires c κs =
-    let l = c .before .before .before .before .before .before .before .loop in
-    rw (c .before .size-in .ensures) (in-sixteen _ (l .c) (omega arith))
+levels-out-requires c κs = search needs
 
 happened-requires : tie.Need-happened-requires Inv-loop μ-loop
 happened-requires c κs = search needs
 
-cast-t15 : tie.Need-cast-t15 Inv-loop μ-loop
-cast-t15 c = search needs
+cast-t20 : tie.Need-cast-t20 Inv-loop μ-loop
+cast-t20 c = search needs
 
-mul-t16 : tie.Need-mul-t16 Inv-loop μ-loop
-mul-t16 c = search needs
+mul-t21 : tie.Need-mul-t21 Inv-loop μ-loop
+mul-t21 c = search needs
 
 element-set-from-s : tie.Need-element-set-from-s Inv-loop μ-loop
 element-set-from-s c = search needs
@@ -80,8 +63,8 @@ loop-again c =
     let l = c .before .before .before .before .loop in
     let e = c .before .is-due .ensures in
     let step : c .if1 .s ≡ matched (l .c) (l .s) =
-    ⊎-elim
-    (λ w. w .6 ∙ (rw (w .5 .ensures, w .4 .ensures, w .2 .ensures) (match-parts (l .s) (l .c)) ∙ sym (match-acts (l .s) (l .c) (sym e ∙ w .0 .taken))))
+    ⊎-elim {C = c .if1 .s ≡ matched (l .c) (l .s)}
+    (λ w. w .7 ∙ (rw (w .6 .ensures, w .5 .ensures, w .3 .ensures .0) (match-parts (l .s) (l .c)) ∙ sym (match-acts (l .s) (l .c) (sym e ∙ w .0 .taken))))
     (λ w. w .1 ∙ sym (match-rests (l .s) (l .c) (sym e ∙ w .0 .left)))
     (c .if1 .came) in
     (omega arith, step ∙ (ap (matched (l .c)) (l .inv .1) ∙ sym (each-next (l .c) 0 (l .c) matched _ (omega arith))))
@@ -102,16 +85,11 @@ match-all-spec =
     mul-x
     element-copy-out-x
     is-due-requires
-    cast-size-in
-    mul-size-in
-    add-size-in
-    mul-size-in-2
-    element-copy-out-size-in
-    size-in-requires
+    size-of-requires
     levels-out-requires
     happened-requires
-    cast-t15
-    mul-t16
+    cast-t20
+    mul-t21
     element-set-from-s
     add-c
     loop-less

@@ -1,0 +1,74 @@
+// What is kept of a channel beside its registers and words, after what may happen to it.
+ghost use mathlib.Core.Path.{_≡_};
+ghost use Rattle.motor.specs.declared.Phase.the-variants.{Matched};
+ghost use Rattle.channel.specs.Record.{inPhase, setUp, withLevelIn, standing};
+use crate::service::Plan;
+use motor::Outcome;
+use motor::Phase;
+use motor::Way;
+use unit::Channel;
+use words::clock;
+
+pub fn set_up(x: Channel) -> Channel
+    ensures { λ r. ⌜ r ≡ setUp x ⌝ }
+{
+    let way = x.way;
+    let phase = x.phase;
+    Channel {
+        initialised: true,
+        level: x.level,
+        way: way,
+        phase: phase,
+    }
+}
+
+pub fn with_level(x: Channel, on: bool) -> Channel
+    ensures { λ r. ⌜ r ≡ withLevelIn x on ⌝ }
+{
+    let way = x.way;
+    let phase = x.phase;
+    Channel {
+        initialised: x.initialised,
+        level: on,
+        way: way,
+        phase: phase,
+    }
+}
+
+pub fn in_phase(x: Channel, way: Way, phase: Phase) -> Channel
+    ensures { λ r. ⌜ r ≡ inPhase x way phase ⌝ }
+{
+    Channel {
+        initialised: x.initialised,
+        level: x.level,
+        way: way,
+        phase: phase,
+    }
+}
+
+// TCR1 is captured; the direction stays.
+pub fn happened(x: Channel, now: u16) -> Channel
+    ensures { λ r. ⌜ r ≡ inPhase x (x .way) (Matched now) ⌝ }
+{
+    let way = x.way;
+    in_phase(x, way, Phase::Matched(now))
+}
+
+// At rest, or with a match set for its time, which may have happened there.
+pub fn standing(p: Plan, x: Channel) -> Channel
+    ensures { λ r. ⌜ r ≡ standing (p .outcome) x (p .now) (p .time) ⌝ }
+{
+    let o = p.outcome;
+    match o {
+        Outcome::Arrived => {
+            let way = x.way;
+            in_phase(x, way, Phase::Resting)
+        }
+        Outcome::Step(way, _) => {
+            if clock::due(p.now, p.time) {
+                return in_phase(x, way, Phase::Matched(p.now));
+            }
+            in_phase(x, way, Phase::Armed(p.time))
+        }
+    }
+}

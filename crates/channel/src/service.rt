@@ -1,0 +1,84 @@
+// The service of a channel: whether it is asked for, what it decides, and its status bit.
+ghost use mathlib.Core.Path.{_≡_};
+ghost use mathlib.Core.Bool.{false};
+ghost use Prim.Native.Nat.{_%_};
+ghost use lib.Dec.{leb};
+ghost use Rattle.words.specs.Choice.{pick};
+ghost use Rattle.channel.specs.Service.{stirs, isTested, reference, decided, statusAfter};
+use motor::Motor;
+use motor::Outcome;
+use motor::Phase;
+use words::clock;
+use words::field;
+
+// What was decided, and when: now, and the time for which a step sets its match.
+pub struct Plan {
+    pub outcome: Outcome,
+    pub now: u16,
+    pub time: u16,
+}
+
+// A match of a group in this phase is due, or has happened.
+pub fn stirs(p: Phase, now: u16) -> bool
+    ensures { λ r. ⌜ r ≡ stirs p now ⌝ }
+{
+    match p {
+        Phase::Resting => false,
+        Phase::Requested => false,
+        Phase::Armed(time) => clock::due(now, time),
+        Phase::Matched(_) => true,
+    }
+}
+
+// A request of an enabled channel.
+pub fn is_asked(on: bool, r: u16) -> bool
+    ensures { λ out. ⌜ out ≡ pick on (leb 2 r) false ⌝ }
+{
+    if on { 2 <= r } else { false }
+}
+
+// An enabled motor is tested where its request to step is served at rest, or its match. The phase is that before the request.
+pub fn is_tested(on: bool, r: u16, p: Phase) -> bool
+    ensures { λ out. ⌜ out ≡ isTested on r p ⌝ }
+{
+    match p {
+        Phase::Resting => false,
+        Phase::Requested => { if on { r == 3 } else { false } }
+        Phase::Armed(_) => false,
+        Phase::Matched(_) => on,
+    }
+}
+
+// The captured time, or TCR1 for a request.
+pub fn reference(p: Phase, now: u16) -> u16
+    ensures { λ r. ⌜ r ≡ reference p now ⌝ }
+{
+    match p {
+        Phase::Resting => now,
+        Phase::Requested => now,
+        Phase::Armed(_) => now,
+        Phase::Matched(captured) => captured,
+    }
+}
+
+pub fn decided(p: Phase, m: Motor) -> Outcome
+    ensures { λ r. ⌜ r ≡ decided p m ⌝ }
+{
+    match p {
+        Phase::Resting => decision::on_request(m),
+        Phase::Requested => decision::on_request(m),
+        Phase::Armed(_) => decision::on_request(m),
+        Phase::Matched(_) => decision::on_match(m),
+    }
+}
+
+// The status bit of c is set where its motor has arrived.
+pub fn status_after(p: Plan, cisr: u16, c: u16) -> u16
+    ensures { λ r. ⌜ r ≡ statusAfter (p .outcome) cisr (c % 16) ⌝ }
+{
+    let o = p.outcome;
+    match o {
+        Outcome::Arrived => field::with_bit(cisr, c, true),
+        Outcome::Step(_, _) => cisr,
+    }
+}
