@@ -6,7 +6,6 @@ ghost use lib.ListN.{length, drop, replicate};
 ghost use Rattle.unit.specs.TheUnit.{withTime};
 ghost use Rattle.unit.specs.OneTick.{afterTicks};
 ghost use Rattle.unit.specs.Calls.{pinWords};
-use crate::quiet;
 use unit::State;
 use words::clock;
 
@@ -28,7 +27,7 @@ fn onward(s: State, room: u16) -> Leap
     requires { ⌜ 0 < room ⌝ }
     ensures { λ r. ⌜ (0 < r .ticks) × (r .ticks ≤ room) × (r .state ≡ afterTicks (r .ticks) s) × (pinWords (r .ticks) s ≡ replicate (r .ticks) (r .state .pins)) ⌝ }
 {
-    let q = quiet::lesser(quiet::quiet_ticks(s), room);
+    let q = quiet::quiet_ticks(s, room);
     if q == 0 {
         let next = tick::tick(s);
         return Leap {

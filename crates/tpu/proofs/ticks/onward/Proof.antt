@@ -2,12 +2,12 @@ use native.Mathlib.Nat.{min-le-left, min-le-right}
 use Rattle.unit.specs.Calls.{pinWords}
 use Rattle.unit.specs.OneTick.{afterTicks}
 use native.Mathlib.Omega.{arith}
-use mathlib.Core.Path.{_≡_, sym, ap}
+use mathlib.Core.Path.{sym, ap}
 use mathlib.Core.List.{[], _∷_}
 use Rattle.unit.specs.Quiet.{quietBelow}
 use Rattle.unit.proofs.Quiet.{quiet-ticks}
 use Rattle.tpu.proofs.Lent.{pins-of, quiet-pins}
-use Prim.Native.Nat.{_≤_, min}
+use Prim.Native.Nat.{_≤_}
 use mir.Syntax.{w16}
 use mir.Val.{Fits}
 use borrow.Author.Needs.{needs}
@@ -16,9 +16,6 @@ use Rattle.tpu.proofs.ticks.onward.Tie as tie
 
 quiet-ticks-requires : tie.Need-quiet-ticks-requires
 quiet-ticks-requires c κs = search needs
-
-lesser-requires : tie.Need-lesser-requires
-lesser-requires c κs = search needs
 
 tick-requires : tie.Need-tick-requires
 tick-requires c κs = search needs
@@ -35,20 +32,21 @@ at-time-requires c κs = search needs
 
 returns-2 : tie.Need-returns-2
 returns-2 c =
-    let s = c .before .before .before .before .before .args .s in
-    let q = c .before .before .before .lesser .result in
+    let start = c .before .before .before .before in
+    let s = start .args .s in
+    let room = start .args .room in
+    let q = c .before .before .before .quiet-ticks .result in
+    let e = c .before .before .before .quiet-ticks .ensures in
     let fits : Fits w16 (s .tcr1) = search needs in
-    let least : q ≡ min (quietBelow 16 s) (c .before .before .before .before .before .args .room) = rw (c .before .before .before .lesser .ensures, c .before .before .before .before .quiet-ticks .ensures) in
-    let h : q ≤ quietBelow 16 s = rw least (min-le-left (quietBelow 16 s) (c .before .before .before .before .before .args .room)) in
-    let room : q ≤ c .before .before .before .before .before .args .room = rw least (min-le-right (quietBelow 16 s) (c .before .before .before .before .before .args .room)) in
-    (omega arith, room, rw (c .at-time .ensures, c .before .later .ensures) (sym (quiet-ticks s q (omega (arith, fits)) h)), rw (c .at-time .ensures, pins-of) (quiet-pins q s (omega (arith, fits)) h))
+    let quiet : q ≤ quietBelow 16 s = rw e (min-le-left (quietBelow 16 s) room) in
+    let fit : q ≤ room = rw e (min-le-right (quietBelow 16 s) room) in
+    (omega arith, fit, rw (c .at-time .ensures, c .before .later .ensures) (sym (quiet-ticks s q (omega (arith, fits)) quiet)), rw (c .at-time .ensures, pins-of) (quiet-pins q s (omega (arith, fits)) quiet))
 
 pub onward-spec : {M : Type 1} → statement M
 onward-spec =
     tie.close
     (tie.spec
     quiet-ticks-requires
-    lesser-requires
     tick-requires
     returns
     later-requires

@@ -1,7 +1,10 @@
 // How many ticks pass from a state in which nothing happens but that the clock goes on.
 ghost use mathlib.Core.Path.{_≡_};
-ghost use Prim.Native.Nat.{min};
+ghost use Prim.Native.Nat.{min, _*_, _%_};
+ghost use lib.ListN.{getD};
 ghost use Rattle.words.specs.Choice.{pick};
+ghost use Rattle.words.specs.Field.{field};
+ghost use Rattle.unit.specs.TheUnit.{cprOf, hsrrOf};
 ghost use Rattle.unit.specs.Pending.{isWanted};
 ghost use Rattle.unit.specs.Quiet.{untilDue, waits, quietBelow};
 use access::registers;
@@ -37,39 +40,36 @@ fn waits(p: Phase, now: u16) -> u16
     }
 }
 
-// In a channel with this priority and this request, its group in this phase.
-fn quiet_in(priority: u16, request: u16, p: Phase, now: u16) -> u16
-    ensures { λ r. ⌜ r ≡ pick (isWanted priority request p) 0 (waits p now) ⌝ }
+// In channel c with these registers, its group in this phase.
+fn quiet_in(regs: [u16; 12], c: u16, p: Phase, now: u16) -> u16
+    ensures { λ r. ⌜ r ≡ pick (isWanted (field 2 (getD regs (cprOf c) 0) (2 * (c % 8))) (field 2 (getD regs (hsrrOf c) 0) (2 * (c % 8))) p) 0 (waits p now) ⌝ }
 {
-    if pending::is_wanted(priority, request, p) {
+    let cpr = regs[registers::cpr_of(c) as usize];
+    let hsrr = regs[registers::hsrr_of(c) as usize];
+    if pending::is_wanted(field::pair(cpr, c), field::pair(hsrr, c), p) {
         return 0;
     }
     waits(p, now)
 }
 
-pub fn lesser(a: u16, b: u16) -> u16
+fn lesser(a: u16, b: u16) -> u16
     ensures { λ r. ⌜ r ≡ min a b ⌝ }
 {
     if a <= b { a } else { b }
 }
 
-// In all channels. Where motors step often the first of them answers for all.
-pub fn quiet_ticks(s: State) -> u16
-    ensures { λ r. ⌜ r ≡ quietBelow 16 s ⌝ }
+// In all channels, at most as many as there is room for. Where motors step often the first of them answers for all.
+pub fn quiet_ticks(s: State, room: u16) -> u16
+    ensures { λ r. ⌜ r ≡ min (quietBelow 16 s) room ⌝ }
 {
     let mut q: u16 = 4096;
     for c in 0..16 {
         let x = s.channels[c as usize];
         let phase = x.phase;
-        let cpr = s.regs[registers::cpr_of(c) as usize];
-        let hsrr = s.regs[registers::hsrr_of(c) as usize];
-        q = lesser(
-            q,
-            quiet_in(field::pair(cpr, c), field::pair(hsrr, c), phase, s.tcr1),
-        );
+        q = lesser(q, quiet_in(s.regs, c, phase, s.tcr1));
         if q == 0 {
             return 0;
         }
     }
-    q
+    lesser(q, room)
 }

@@ -2,8 +2,8 @@ use native.Mathlib.Omega.{arith}
 use borrow.Author.Tests.{le-leb, lt-leb}
 use Rattle.unit.specs.Quiet.{untilDue}
 use borrow.Author.Needs.{needs}
-use Rattle.tpu.proofs.quiet.until_due.Statement.{statement}
-use Rattle.tpu.proofs.quiet.until_due.Tie as tie
+use Rattle.quiet.proofs.until_due.Statement.{statement}
+use Rattle.quiet.proofs.until_due.Tie as tie
 
 since-requires : tie.Need-since-requires
 since-requires c κs = search needs
