@@ -17,9 +17,9 @@ use Rattle.unit.specs.OneTick.{tick, afterTicks}
 use Rattle.text.specs.Ascii.{ascii}
 use Rattle.text.specs.Placing.{Wrote, written}
 use Rattle.text.proofs.PlacingLaws.{also, nothing, from-front}
-use Rattle.script.specs.declared.Command.{Command}
-use Rattle.script.specs.declared.Command.the-variants.{Write, Read, Ticks, Other}
-use Rattle.script.specs.Parsing.{commandOf}
+use Rattle.parse.specs.declared.Command.{Command}
+use Rattle.parse.specs.declared.Command.the-variants.{Write, Read, Ticks, Other}
+use Rattle.parse.specs.Parsing.{commandOf}
 use Rattle.script.specs.Replying.{room, stateBy, counted, ticksBy, stateAfter, ticksAfter}
 use Rattle.drawing.specs.declared.Drawn.{Drawn}
 use Rattle.wave.specs.Signals.{changes}

@@ -16,9 +16,9 @@ use Rattle.unit.specs.OneTick.{afterTicks}
 use Rattle.unit.proofs.Tests.{and-left}
 use Rattle.text.specs.Ascii.{ascii}
 use Rattle.text.proofs.LengthLaws.{decimal-short}
-use Rattle.script.specs.declared.Command.{Command}
-use Rattle.script.specs.declared.Command.the-variants.{Write, Read, Ticks, Other}
-use Rattle.script.specs.Parsing.{commandOf}
+use Rattle.parse.specs.declared.Command.{Command}
+use Rattle.parse.specs.declared.Command.the-variants.{Write, Read, Ticks, Other}
+use Rattle.parse.specs.Parsing.{commandOf}
 use Rattle.script.specs.Replying.{room}
 use Rattle.script.proofs.ReplyingLaws.{good}
 use Rattle.wave.proofs.LengthLaws.{short}

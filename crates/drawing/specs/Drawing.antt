@@ -12,9 +12,9 @@ use Rattle.unit.specs.OneTick.{afterTicks}
 use Rattle.text.specs.Ascii.{ascii}
 use Rattle.text.specs.Placing.{Wrote}
 use Rattle.text.specs.Printing.{decimal}
-use Rattle.script.specs.declared.Command.{Command}
-use Rattle.script.specs.declared.Command.the-variants.{Write, Read, Ticks, Other}
-use Rattle.script.specs.Parsing.{commandOf}
+use Rattle.parse.specs.declared.Command.{Command}
+use Rattle.parse.specs.declared.Command.the-variants.{Write, Read, Ticks, Other}
+use Rattle.parse.specs.Parsing.{commandOf}
 use Rattle.script.specs.Replying.{room, stateBy, ticksBy}
 use Rattle.drawing.specs.declared.Drawn.{Drawn}
 use Rattle.wave.specs.Signals.{changes}

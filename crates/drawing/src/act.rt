@@ -1,6 +1,6 @@
 // Each command carried out, and what it draws put at the front of `out`.
 ghost use Rattle.text.specs.Placing.{Wrote};
-ghost use Rattle.script.specs.declared.Command.the-variants.{Write, Read, Ticks};
+ghost use Rattle.parse.specs.declared.Command.the-variants.{Write, Read, Ticks};
 ghost use Rattle.drawing.specs.Drawing.{Drew, refusalNote};
 use crate::Drawn;
 use unit::Answer;

@@ -5,7 +5,7 @@ ghost use lib.ListN.{length};
 ghost use Rattle.text.specs.Placing.{written};
 ghost use Rattle.script.specs.Replying.{stateAfter, ticksAfter};
 ghost use Rattle.drawing.specs.Drawing.{drawing, seenAfter};
-use script::Command;
+use parse::Command;
 use unit::State;
 
 mod act;
@@ -29,7 +29,7 @@ pub fn draw(seen: State, state: State, ticks: u64, line: &[u8], out: &mut [u8]) 
         × (r .length ≡ min (length (drawing seen state ticks (now (line .entry)))) (length (now (out .entry))))
         × (now (out .exit) ≡ written (now (out .entry)) 0 (drawing seen state ticks (now (line .entry)))) ⌝ }
 {
-    let c = script::parse::command(line);
+    let c = parse::line(line);
     match c {
         Command::Write(address, value) => act::write(seen, state, ticks, address, value, out),
         Command::Read(address) => act::read(seen, state, ticks, address, out),

@@ -14,9 +14,9 @@ use Rattle.unit.specs.declared.Answer.{Answer}
 use Rattle.unit.specs.declared.Answer.the-variants.{Taken, Refused}
 use Rattle.unit.specs.Gate.{advanceGood}
 use Rattle.unit.specs.Calls.{readOf, advanceOf, pinWords}
-use Rattle.script.specs.declared.Command.{Command}
-use Rattle.script.specs.declared.Command.the-variants.{Write, Read, Ticks, Other}
-use Rattle.script.specs.Parsing.{commandOf}
+use Rattle.parse.specs.declared.Command.{Command}
+use Rattle.parse.specs.declared.Command.the-variants.{Write, Read, Ticks, Other}
+use Rattle.parse.specs.Parsing.{commandOf}
 use Rattle.text.specs.Printing.{hexWord, decimal}
 use Rattle.script.specs.Printing.{numberLine, wordLine, pinLine}
 use Rattle.script.specs.Replying.{room, refusal, answered, readReply, wordBefore, pinLines, replyBy, replyTo}

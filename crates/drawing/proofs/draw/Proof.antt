@@ -4,8 +4,8 @@ use Rattle.drawing.proofs.DrawingLaws.{other, by-line}
 use Rattle.drawing.proofs.draw.Statement.{statement}
 use Rattle.drawing.proofs.draw.Tie as tie
 
-command-requires : tie.Need-command-requires
-command-requires c κs = search needs
+line-requires : tie.Need-line-requires
+line-requires c κs = search needs
 
 enum-known-c : tie.Need-enum-known-c
 enum-known-c c = search needs
@@ -41,7 +41,7 @@ returns : tie.Need-returns
 returns c =
     let did = c .before .before in
     let told = did .before .before .before in
-    by-line _ _ _ _ _ _ _ _ _ (told .before .before .command .ensures) (told .c .given .1) (did .write .ensures)
+    by-line _ _ _ _ _ _ _ _ _ (told .before .before .line .ensures) (told .c .given .1) (did .write .ensures)
 
 same-length-2 : tie.Need-same-length-2
 same-length-2 c = search needs
@@ -50,7 +50,7 @@ returns-2 : tie.Need-returns-2
 returns-2 c =
     let did = c .before .before in
     let told = did .before .before .before in
-    by-line _ _ _ _ _ _ _ _ _ (told .before .before .command .ensures) (told .c2 .given .1) (did .read .ensures)
+    by-line _ _ _ _ _ _ _ _ _ (told .before .before .line .ensures) (told .c2 .given .1) (did .read .ensures)
 
 same-length-3 : tie.Need-same-length-3
 same-length-3 c = search needs
@@ -59,7 +59,7 @@ returns-3 : tie.Need-returns-3
 returns-3 c =
     let did = c .before .before in
     let told = did .before .before .before in
-    by-line _ _ _ _ _ _ _ _ _ (told .before .before .command .ensures) (told .c3 .given .1) (did .advance .ensures)
+    by-line _ _ _ _ _ _ _ _ _ (told .before .before .line .ensures) (told .c3 .given .1) (did .advance .ensures)
 
 same-length-4 : tie.Need-same-length-4
 same-length-4 c = search needs
@@ -69,13 +69,13 @@ unfolding ascii
 returns-4 c =
     let did = c .before .before in
     let told = did .before .before .before in
-    by-line _ _ _ _ _ _ _ _ _ (told .before .before .command .ensures) (told .enum-told .given .1) (other _ _ _ _ _ _ (did .bytes .ensures))
+    by-line _ _ _ _ _ _ _ _ _ (told .before .before .line .ensures) (told .enum-told .given .1) (other _ _ _ _ _ _ (did .bytes .ensures))
 
 pub draw-spec : {M : Type 1} → statement M
 draw-spec =
     tie.close
     (tie.spec
-    command-requires
+    line-requires
     enum-known-c
     write-requires
     enum-known-c-2
