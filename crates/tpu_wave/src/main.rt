@@ -86,6 +86,7 @@ fn last_line(s: Session, line: &[u8], out: &mut [u8]) -> Session
     t
 }
 
+// A line feed ends the line; any other byte is kept, as far as there is room.
 fn lines_done(s: Session, block: &[u8], line: &mut [u8], out: &mut [u8]) -> Session
     requires { ⌜ (s .kept ≤ length (now line)) × (s .waiting ≤ length (now out)) ⌝ }
     ensures { λ r. ⌜ (r .kept ≤ length (now (line .entry))) × (r .waiting ≤ length (now (out .entry))) ⌝ }
@@ -93,46 +94,15 @@ fn lines_done(s: Session, block: &[u8], line: &mut [u8], out: &mut [u8]) -> Sess
     let mut t = s;
     let mut at = 0;
     while at < block.len() {
-        let end = line_end(block, at);
-        t.kept = keep(line, t.kept, &block[at..end]);
-        at = end;
-        if end < block.len() {
-            at = end + 1;
+        let b = block[at];
+        at += 1;
+        if b == b'\n' {
             t = line_done(t, line, out);
+        } else {
+            t.kept = text::put(line, t.kept, b);
         }
     }
     t
-}
-
-// Where the next line feed is, or the end of the block.
-fn line_end(block: &[u8], from: usize) -> usize
-    requires { ⌜ from ≤ length (now block) ⌝ }
-    ensures { λ r. ⌜ (from ≤ r) × (r ≤ length (now (block .entry))) ⌝ }
-{
-    let mut at = from;
-    while at < block.len() {
-        if block[at] == b'\n' {
-            return at;
-        }
-        at += 1;
-    }
-    at
-}
-
-// A part of a line is added to what is kept of it, as far as there is room.
-fn keep(line: &mut [u8], kept: usize, part: &[u8]) -> usize
-    requires { ⌜ kept ≤ length (now line) ⌝ }
-    ensures { λ r. ⌜ r ≤ length (now (line .entry)) ⌝ }
-{
-    let mut at = kept;
-    for i in 0..part.len() {
-        if line.len() <= at {
-            return at;
-        }
-        line[at] = part[i];
-        at += 1;
-    }
-    at
 }
 
 // What the line that is kept draws goes behind what waits; where it might not fit, that is written first.
