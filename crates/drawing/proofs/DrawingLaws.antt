@@ -14,11 +14,10 @@ use Rattle.unit.specs.declared.Answered.{Answered}
 use Rattle.unit.specs.Gate.{advanceGood}
 use Rattle.unit.specs.Calls.{readOf, writeOf, advanceOf}
 use Rattle.unit.specs.OneTick.{tick, afterTicks}
-use Rattle.text.specs.Ascii.{ascii}
 use Rattle.text.specs.Placing.{Wrote, written}
 use Rattle.text.proofs.PlacingLaws.{also, nothing, from-front}
 use Rattle.parse.specs.declared.Command.{Command}
-use Rattle.parse.specs.declared.Command.the-variants.{Write, Read, Ticks, Other}
+use Rattle.parse.specs.declared.Command.the-variants.{Write, Read, Ticks}
 use Rattle.parse.specs.Parsing.{commandOf}
 use Rattle.script.specs.Replying.{room, stateBy, counted, ticksBy, stateAfter, ticksAfter}
 use Rattle.drawing.specs.declared.Drawn.{Drawn}
@@ -124,13 +123,6 @@ module _ (seen s : State) (ticks : ℕ) (out : List ℕ) where
     advance-refused h w =
         let g = stopped s n h in
         record { state = rw (stateBy, g); shown = rw g; count = rw g; wrote = rw g w }
-
-  pub other :
-      (place : ℕ) (left : List ℕ) →
-      Wrote out 0 (ascii "$comment E $end\n") place left →
-      Drew Other seen s ticks out (record { state = s; seen = seen; ticks = ticks; length = place }) left
-  unfolding stateBy ticksBy seenBy drawingBy
-  other place left w = record { state = refl; shown = refl; count = refl; wrote = w }
 
 -- ---- the line
 

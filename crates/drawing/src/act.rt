@@ -1,6 +1,6 @@
 // Each command carried out, and what it draws put at the front of `out`.
 ghost use Rattle.text.specs.Placing.{Wrote};
-ghost use Rattle.parse.specs.declared.Command.the-variants.{Write, Read, Ticks};
+ghost use Rattle.parse.specs.declared.Command.the-variants.{Write, Read, Ticks, Other};
 ghost use Rattle.drawing.specs.Drawing.{Drew, refusalNote};
 use crate::Drawn;
 use unit::Answer;
@@ -45,6 +45,17 @@ pub fn read(seen: State, state: State, ticks: u64, address: u16, out: &mut [u8])
         seen,
         ticks,
         length,
+    }
+}
+
+pub fn other(seen: State, state: State, ticks: u64, out: &mut [u8]) -> Drawn
+    ensures { λ r. ⌜ Drew Other seen state ticks (now (out .entry)) r (now (out .exit)) ⌝ }
+{
+    Drawn {
+        state,
+        seen,
+        ticks,
+        length: text::bytes(out, 0, b"$comment E $end\n"),
     }
 }
 

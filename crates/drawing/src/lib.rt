@@ -34,11 +34,6 @@ pub fn draw(seen: State, state: State, ticks: u64, line: &[u8], out: &mut [u8]) 
         Command::Write(address, value) => act::write(seen, state, ticks, address, value, out),
         Command::Read(address) => act::read(seen, state, ticks, address, out),
         Command::Ticks(n) => act::advance(seen, state, ticks, n, out),
-        Command::Other => Drawn {
-            state,
-            seen,
-            ticks,
-            length: text::bytes(out, 0, b"$comment E $end\n"),
-        },
+        Command::Other => act::other(seen, state, ticks, out),
     }
 }

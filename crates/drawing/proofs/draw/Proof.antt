@@ -1,6 +1,5 @@
 use borrow.Author.Needs.{needs}
-use Rattle.text.specs.Ascii.{ascii}
-use Rattle.drawing.proofs.DrawingLaws.{other, by-line}
+use Rattle.drawing.proofs.DrawingLaws.{by-line}
 use Rattle.drawing.proofs.draw.Statement.{statement}
 use Rattle.drawing.proofs.draw.Tie as tie
 
@@ -28,11 +27,8 @@ advance-requires c κs = search needs
 enum-told : tie.Need-enum-told
 enum-told c = search needs
 
-slice-aggregate-bytes : tie.Need-slice-aggregate-bytes
-slice-aggregate-bytes c = search needs
-
-bytes-requires : tie.Need-bytes-requires
-bytes-requires c κs = search needs
+other-requires : tie.Need-other-requires
+other-requires c κs = search needs
 
 same-length : tie.Need-same-length
 same-length c = search needs
@@ -65,11 +61,10 @@ same-length-4 : tie.Need-same-length-4
 same-length-4 c = search needs
 
 returns-4 : tie.Need-returns-4
-unfolding ascii
 returns-4 c =
     let did = c .before .before in
-    let told = did .before .before .before in
-    by-line _ _ _ _ _ _ _ _ _ (told .before .before .line .ensures) (told .enum-told .given .1) (other _ _ _ _ _ _ (did .bytes .ensures))
+    let told = did .before .before in
+    by-line _ _ _ _ _ _ _ _ _ (told .before .before .line .ensures) (told .enum-told .given .1) (did .other .ensures)
 
 pub draw-spec : {M : Type 1} → statement M
 draw-spec =
@@ -83,8 +78,7 @@ draw-spec =
     enum-known-c-3
     advance-requires
     enum-told
-    slice-aggregate-bytes
-    bytes-requires
+    other-requires
     same-length
     returns
     same-length-2
