@@ -21,7 +21,7 @@ use Rattle.parse.specs.declared.Command.the-variants.{Write, Read, Ticks}
 use Rattle.parse.specs.Parsing.{commandOf}
 use Rattle.script.specs.Replying.{room, stateBy, counted, ticksBy, stateAfter, ticksAfter}
 use Rattle.drawing.specs.declared.Drawn.{Drawn}
-use Rattle.wave.specs.Signals.{changes}
+use Rattle.wave.specs.Changes.{changes}
 use Rattle.drawing.specs.Drawing.{seenAt, tickChanges, refusalNote, noted, readNoted, drawingBy, seenIf, seenBy, drawing, seenAfter, Drew}
 
 -- ---- ticks

@@ -17,7 +17,7 @@ use Rattle.parse.specs.declared.Command.the-variants.{Write, Read, Ticks, Other
 use Rattle.parse.specs.Parsing.{commandOf}
 use Rattle.script.specs.Replying.{room, stateBy, ticksBy}
 use Rattle.drawing.specs.declared.Drawn.{Drawn}
-use Rattle.wave.specs.Signals.{changes}
+use Rattle.wave.specs.Changes.{changes}
 
 -- ---- ticks
 

@@ -2,7 +2,7 @@
 use Prim.Native.Nat.{ℕ, _≤_}
 use lib.ListN.{length}
 use Rattle.unit.specs.declared.State.{State}
-use Rattle.wave.specs.Signals.{changes}
+use Rattle.wave.specs.Changes.{changes}
 use Rattle.wave.specs.Header.{header}
 
 -- how long the changes of one tick and the header can be

@@ -5,7 +5,7 @@ use mathlib.Core.List.{List, [], _∷_, _++_}
 use Rattle.unit.specs.TheUnit.{resetState}
 use Rattle.text.specs.Ascii.{ascii}
 use Rattle.text.specs.Printing.{decimal}
-use Rattle.wave.specs.Signals.{values}
+use Rattle.signals.specs.Signals.{values}
 
 -- a signal of a width in bits, with the character for it, and its name with a number
 unfoldable pub declaration : ℕ → ℕ → List ℕ → ℕ → List ℕ

@@ -1,3 +1,3 @@
+pub mod Changes
 pub mod Claims
 pub mod Header
-pub mod Signals

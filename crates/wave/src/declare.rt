@@ -20,10 +20,8 @@ fn signal(out: &mut [u8], at: usize, width: u64, id: u8, name: &[u8], c: u64) ->
 {
     let a = text::bytes(out, at, b"$var wire ");
     let b = text::decimal(out, a, width);
-    let d = text::put(out, b, b' ');
-    let e = text::put(out, d, id);
-    let f = text::put(out, e, b' ');
-    let g = text::bytes(out, f, name);
-    let h = text::decimal(out, g, c);
-    text::bytes(out, h, b" $end\n")
+    let d = text::bytes(out, b, &[b' ', id, b' ']);
+    let e = text::bytes(out, d, name);
+    let f = text::decimal(out, e, c);
+    text::bytes(out, f, b" $end\n")
 }

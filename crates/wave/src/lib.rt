@@ -4,11 +4,10 @@ ghost use Prim.Native.Nat.{min};
 ghost use lib.ListN.{length};
 ghost use Rattle.text.specs.Placing.{Wrote, written};
 ghost use Rattle.wave.specs.Header.{header};
-ghost use Rattle.wave.specs.Signals.{changes};
+ghost use Rattle.wave.specs.Changes.{changes};
 use unit::State;
 
 mod declare;
-mod values;
 
 // The head of the file, with the values at reset, put at the front of `out`: as much of it as fits.
 pub fn header(out: &mut [u8]) -> usize
@@ -27,7 +26,7 @@ pub fn header(out: &mut [u8]) -> usize
         d,
         b"$var wire 1 \" interrupt $end\n$upscope $end\n$enddefinitions $end\n#0\n$dumpvars\n",
     );
-    let f = values::values(out, e, true, State::RESET, State::RESET);
+    let f = signals::values(out, e, true, State::RESET, State::RESET);
     text::bytes(out, f, b"$end\n")
 }
 
@@ -38,5 +37,5 @@ pub fn changes(out: &mut [u8], at: usize, tick: u64, old: State, s: State) -> us
     let a = text::put(out, at, b'#');
     let b = text::decimal(out, a, tick);
     let c = text::put(out, b, b'\n');
-    values::values(out, c, false, old, s)
+    signals::values(out, c, false, old, s)
 }

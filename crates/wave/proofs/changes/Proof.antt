@@ -1,7 +1,7 @@
 use borrow.Author.Needs.{needs}
 use Rattle.text.specs.Ascii.{ascii}
 use Rattle.text.proofs.PlacingLaws.{also}
-use Rattle.wave.specs.Signals.{changes}
+use Rattle.wave.specs.Changes.{changes}
 use Rattle.wave.proofs.changes.Statement.{statement}
 use Rattle.wave.proofs.changes.Tie as tie
 

@@ -14,26 +14,23 @@ bytes-requires c κs = search needs
 decimal-requires : tie.Need-decimal-requires
 decimal-requires c κs = search needs
 
-put-requires : tie.Need-put-requires
-put-requires c κs = search needs
-
-put-requires-2 : tie.Need-put-requires-2
-put-requires-2 c κs = search needs
-
-put-requires-3 : tie.Need-put-requires-3
-put-requires-3 c κs = search needs
+slice-aggregate-bytes-2 : tie.Need-slice-aggregate-bytes-2
+slice-aggregate-bytes-2 c = search needs
 
 bytes-requires-2 : tie.Need-bytes-requires-2
 bytes-requires-2 c κs = search needs
 
+bytes-requires-3 : tie.Need-bytes-requires-3
+bytes-requires-3 c κs = search needs
+
 decimal-requires-2 : tie.Need-decimal-requires-2
 decimal-requires-2 c κs = search needs
 
-slice-aggregate-bytes-2 : tie.Need-slice-aggregate-bytes-2
-slice-aggregate-bytes-2 c = search needs
+slice-aggregate-bytes-3 : tie.Need-slice-aggregate-bytes-3
+slice-aggregate-bytes-3 c = search needs
 
-bytes-requires-3 : tie.Need-bytes-requires-3
-bytes-requires-3 c κs = search needs
+bytes-requires-4 : tie.Need-bytes-requires-4
+bytes-requires-4 c κs = search needs
 
 same-length : tie.Need-same-length
 same-length c = search needs
@@ -42,20 +39,15 @@ returns : tie.Need-returns
 unfolding declaration ascii
 returns c =
     let last = c .before .before in
-    let seventh = last .before .before .before .before .before in
-    let sixth = seventh .before .before .before .before in
-    let fifth = sixth .before .before .before .before in
+    let fifth = last .before .before .before .before .before in
     let fourth = fifth .before .before .before .before in
     let third = fourth .before .before .before .before in
-    let second = third .before .before .before .before in
+    let second = third .before .before .before .before .before in
     let first = second .before .before .before .before in
     also (first .bytes .ensures)
     (also (second .decimal .ensures)
-    (also (third .put .ensures)
-    (also (fourth .put2 .ensures)
-    (also (fifth .put3 .ensures)
-    (also (sixth .bytes2 .ensures)
-    (also (seventh .decimal2 .ensures) (last .bytes3 .ensures)))))))
+    (also (third .bytes2 .ensures)
+    (also (fourth .bytes3 .ensures) (also (fifth .decimal2 .ensures) (last .bytes4 .ensures)))))
 
 pub signal-spec : {M : Type 1} → statement M
 signal-spec =
@@ -64,12 +56,11 @@ signal-spec =
     slice-aggregate-bytes
     bytes-requires
     decimal-requires
-    put-requires
-    put-requires-2
-    put-requires-3
-    bytes-requires-2
-    decimal-requires-2
     slice-aggregate-bytes-2
+    bytes-requires-2
     bytes-requires-3
+    decimal-requires-2
+    slice-aggregate-bytes-3
+    bytes-requires-4
     same-length
     returns)

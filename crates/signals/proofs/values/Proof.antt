@@ -1,8 +1,8 @@
 use borrow.Author.Needs.{needs}
 use Rattle.text.proofs.PlacingLaws.{also}
-use Rattle.wave.specs.Signals.{values}
-use Rattle.wave.proofs.values.values.Statement.{statement}
-use Rattle.wave.proofs.values.values.Tie as tie
+use Rattle.signals.specs.Signals.{values}
+use Rattle.signals.proofs.values.Statement.{statement}
+use Rattle.signals.proofs.values.Tie as tie
 
 pins-requires : tie.Need-pins-requires
 pins-requires c κs = search needs

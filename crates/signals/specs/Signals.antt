@@ -1,7 +1,7 @@
 -- What is shown of a state: the pins, TCR1, the position of each bound primary and the interrupt line. Each signal has a value and
 -- one character for its name: `a` to `p` (97 on) the pins, `!` (33) TCR1, `A` to `P` (65 on) the positions, `"` (34) the line.
 use Prim.Native.Nat.{ℕ, zero, suc, _+_, _-_}
-use mathlib.Core.Bool.{Bool, false, not, _||_}
+use mathlib.Core.Bool.{Bool, not, _||_}
 use mathlib.Core.List.{List, [], _∷_, _++_}
 use lib.Dec.{ltb, eqb}
 use Rattle.words.specs.Choice.{pick}
@@ -65,7 +65,3 @@ values all old s =
     ++ (vectorValue all (old .tcr1) (s .tcr1) 33
     ++ (positionValues 16 all old s
     ++ wireValue all (bitValue (interruptLine old)) (bitValue (interruptLine s)) 34))
-
--- what one tick changes: `#`, its number, and the values that differ
-unfoldable pub changes : ℕ → State → State → List ℕ
-changes tick old s = ascii "#" ++ (decimal tick ++ (ascii "\n" ++ values false old s))

@@ -6,9 +6,9 @@ use lib.ListN.{length}
 use borrow.Author.Needs.{needs}
 use Rattle.text.specs.Placing.{Wrote}
 use Rattle.text.proofs.PlacingLaws.{also, nothing}
-use Rattle.wave.specs.Signals.{positionValues}
-use Rattle.wave.proofs.values.positions.Statement.{statement}
-use Rattle.wave.proofs.values.positions.Tie as tie
+use Rattle.signals.specs.Signals.{positionValues}
+use Rattle.signals.proofs.positions.Statement.{statement}
+use Rattle.signals.proofs.positions.Tie as tie
 
 abbrev Inv-loop : tie.InvT-loop
 Inv-loop out₀ at all old s next₀ c₀ out next c =

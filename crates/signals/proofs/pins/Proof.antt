@@ -6,10 +6,10 @@ use lib.ListN.{length}
 use borrow.Author.Needs.{needs}
 use Rattle.text.specs.Placing.{Wrote}
 use Rattle.text.proofs.PlacingLaws.{also, nothing}
-use Rattle.wave.specs.Signals.{pinValues}
-use Rattle.wave.proofs.SignalsLaws.{level-of}
-use Rattle.wave.proofs.values.pins.Statement.{statement}
-use Rattle.wave.proofs.values.pins.Tie as tie
+use Rattle.signals.specs.Signals.{pinValues}
+use Rattle.signals.proofs.SignalsLaws.{level-of}
+use Rattle.signals.proofs.pins.Statement.{statement}
+use Rattle.signals.proofs.pins.Tie as tie
 
 abbrev Inv-loop : tie.InvT-loop
 Inv-loop out₀ at all old w next₀ c₀ out next c =

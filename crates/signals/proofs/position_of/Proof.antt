@@ -1,9 +1,9 @@
 use borrow.Author.Needs.{needs}
 use Rattle.unit.specs.TheUnit.{position}
 use Rattle.words.proofs.ChoiceLaws.{said-no, said-yes}
-use Rattle.wave.specs.Signals.{positionOf}
-use Rattle.wave.proofs.values.position_of.Statement.{statement}
-use Rattle.wave.proofs.values.position_of.Tie as tie
+use Rattle.signals.specs.Signals.{positionOf}
+use Rattle.signals.proofs.position_of.Statement.{statement}
+use Rattle.signals.proofs.position_of.Tie as tie
 
 stepping-requires : tie.Need-stepping-requires
 stepping-requires c κs = search needs

@@ -1,8 +1,9 @@
-// The values of the signals, put into a lent buffer of any length: each function takes the place to begin at and answers the next.
+// The values of what is shown of a state, put into a lent buffer of any length: each function takes the place to begin at and
+// answers the next.
 ghost use mathlib.Core.Path.{_≡_};
 ghost use Rattle.text.specs.Placing.{Wrote};
 ghost use Rattle.words.specs.Field.{bitValue};
-ghost use Rattle.wave.specs.Signals.{positionOf, binary, vector, wireValue, vectorValue, pinValues, positionValues, values};
+ghost use Rattle.signals.specs.Signals.{positionOf, binary, vector, wireValue, vectorValue, pinValues, positionValues, values};
 use access::parameters;
 use unit::State;
 use words::field;
@@ -65,8 +66,7 @@ fn wire_value(out: &mut [u8], at: usize, all: bool, old: u32, v: u32, id: u8) ->
         return at;
     }
     let a = text::decimal(out, at, v as u64);
-    let b = text::put(out, a, id);
-    text::put(out, b, b'\n')
+    text::bytes(out, a, &[id, b'\n'])
 }
 
 fn vector_value(out: &mut [u8], at: usize, all: bool, old: u32, v: u32, id: u8) -> usize
@@ -76,9 +76,7 @@ fn vector_value(out: &mut [u8], at: usize, all: bool, old: u32, v: u32, id: u8) 
         return at;
     }
     let a = vector(out, at, v);
-    let b = text::put(out, a, b' ');
-    let c = text::put(out, b, id);
-    text::put(out, c, b'\n')
+    text::bytes(out, a, &[b' ', id, b'\n'])
 }
 
 fn vector(out: &mut [u8], at: usize, v: u32) -> usize

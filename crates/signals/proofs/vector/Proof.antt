@@ -2,9 +2,9 @@ use borrow.Author.Tests.{lt-ltb, le-ltb}
 use borrow.Author.Needs.{needs}
 use Rattle.text.specs.Ascii.{ascii}
 use Rattle.text.proofs.PlacingLaws.{also}
-use Rattle.wave.specs.Signals.{vector}
-use Rattle.wave.proofs.values.vector.Statement.{statement}
-use Rattle.wave.proofs.values.vector.Tie as tie
+use Rattle.signals.specs.Signals.{vector}
+use Rattle.signals.proofs.vector.Statement.{statement}
+use Rattle.signals.proofs.vector.Tie as tie
 
 put-requires : tie.Need-put-requires
 put-requires c κs = search needs

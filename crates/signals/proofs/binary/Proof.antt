@@ -6,10 +6,10 @@ use lib.ListN.{length}
 use borrow.Author.Needs.{needs}
 use Rattle.text.specs.Placing.{Wrote}
 use Rattle.text.proofs.PlacingLaws.{also, nothing}
-use Rattle.wave.specs.Signals.{binary}
-use Rattle.wave.proofs.SignalsLaws.{level-of}
-use Rattle.wave.proofs.values.binary.Statement.{statement}
-use Rattle.wave.proofs.values.binary.Tie as tie
+use Rattle.signals.specs.Signals.{binary}
+use Rattle.signals.proofs.SignalsLaws.{level-of}
+use Rattle.signals.proofs.binary.Statement.{statement}
+use Rattle.signals.proofs.binary.Tie as tie
 
 abbrev Inv-loop : tie.InvT-loop
 Inv-loop out₀ at w next₀ k₀ out next k =

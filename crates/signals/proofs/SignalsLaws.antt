@@ -6,7 +6,7 @@ use native.Mathlib.Omega.{arith}
 use lib.Dec.{eqb}
 use borrow.Author.Tests.{not-true, not-false}
 use Rattle.words.specs.Field.{bitOf, bitValue}
-use Rattle.wave.specs.Signals.{isWanted}
+use Rattle.signals.specs.Signals.{isWanted}
 
 pub level-of : (w i v : ℕ) (on : Bool) → i < 16 → on ≡ bitOf w (i % 16) → v ≡ bitValue on → v ≡ bitValue (bitOf w i)
 level-of w i v on h e f =
