@@ -3,11 +3,10 @@ ghost use mathlib.Core.Path.{_≡_};
 ghost use mathlib.Core.Bool.{_&&_};
 ghost use lib.Dec.{eqb};
 ghost use Prim.Native.Nat.{_<_, _≤_};
-ghost use Rattle.unit.specs.TheUnit.{request, stepping};
+ghost use Rattle.unit.specs.TheUnit.{request, stepping, cntl0, cntl1, top};
 ghost use Rattle.words.specs.Choice.{ask};
-ghost use Rattle.unit.specs.Gate.{Yes, No, isStepper, requested, askInitialise, askStep, askChannel, andThen, askChannels};
+ghost use Rattle.unit.specs.Gate.{Yes, No, isStepper, rampGood, requested, askInitialise, askStep, askChannel, andThen, askChannels};
 ghost use Rattle.gate.specs.Told.{told};
-use crate::questions;
 use access::parameters;
 use access::registers;
 use unit::Answer;
@@ -50,6 +49,18 @@ fn ask_again(s: State, c: u16) -> Answer
     Answer::Taken
 }
 
+// Question 8 of the primary c: the next channel has STEP_CNTL0 and STEP_CNTL1.
+fn ramp_stands(s: State, c: u16) -> bool
+    requires { ⌜ c < 16 ⌝ }
+    ensures { λ r. ⌜ r ≡ rampGood (cntl0 s c) (cntl1 s c) (top s c) ⌝ }
+{
+    questions::ramp_good(
+        parameters::word(s, c + 1, 2),
+        parameters::word(s, c + 1, 3),
+        parameters::top(s, c),
+    )
+}
+
 // Questions 2, 3 and 5 to 9; of a request that comes again, question 3.
 fn ask_step(s: State, c: u16) -> Answer
     requires { ⌜ c < 16 ⌝ }
@@ -73,7 +84,7 @@ fn ask_step(s: State, c: u16) -> Answer
     if !questions::pattern_good(s, c) {
         return Answer::Refused(7);
     }
-    if !questions::ramp_stands(s, c) {
+    if !ramp_stands(s, c) {
         return Answer::Refused(8);
     }
     if !questions::target_good(s, c, parameters::word(s, c, 3)) {

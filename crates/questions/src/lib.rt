@@ -1,0 +1,145 @@
+// The questions put for a channel. Question 2 is `group::is_free`.
+ghost use mathlib.Core.Path.{_≡_};
+ghost use Prim.Native.Nat.{_<_};
+ghost use Rattle.unit.specs.TheUnit.{all, size, modCount};
+ghost use Rattle.unit.specs.Gate.{isStepper, mayInitialise, otherwiseZero, spanGood, isReady, groupReady, showsPattern, patternGood, rampGood, targetGood};
+use access::parameters;
+use access::records;
+use access::registers;
+use motor::step;
+use unit::State;
+use words::field;
+use words::rotation;
+
+// Question 3.
+pub fn is_stepper(s: State, c: u16) -> bool
+    ensures { λ r. ⌜ r ≡ isStepper s c ⌝ }
+{
+    registers::function(s, c) == 13
+}
+
+// Question 4: CHANNEL_CONTROL forces the pin to the level that PIN_CONTROL has first.
+pub fn may_initialise(s: State, c: u16) -> bool
+    ensures { λ r. ⌜ r ≡ mayInitialise s c ⌝ }
+{
+    let control = parameters::word(s, c, 0);
+    if (control >> 5) & 15 != 4 {
+        return false;
+    }
+    if field::bit(parameters::word(s, c, 1), 15) {
+        return field::pair(control, 0) == 1;
+    }
+    field::pair(control, 0) == 2
+}
+
+// The two nibbles of words 4 and 5 that no field has are 0.
+fn otherwise_zero(w: u16) -> bool
+    ensures { λ r. ⌜ r ≡ otherwiseZero w ⌝ }
+{
+    if field::nibble(w, 3) != 0 {
+        return false;
+    }
+    field::nibble(w, 1) == 0
+}
+
+// Question 5.
+pub fn span_good(s: State, c: u16) -> bool
+    ensures { λ r. ⌜ r ≡ spanGood s c ⌝ }
+{
+    let n = parameters::top(s, c);
+    let l = parameters::last(s, c);
+    if !otherwise_zero(parameters::word(s, c, 5)) {
+        return false;
+    }
+    if n < 1 {
+        return false;
+    }
+    if 14 < n {
+        return false;
+    }
+    if l <= c {
+        return false;
+    }
+    l <= c + 7
+}
+
+// What question 6 asks of each channel of a group.
+fn is_ready(s: State, j: u16) -> bool
+    ensures { λ r. ⌜ r ≡ isReady s j ⌝ }
+{
+    if !is_stepper(s, j) {
+        return false;
+    }
+    let x = records::channel(s, j);
+    if !x.initialised {
+        return false;
+    }
+    group::is_free(s, j)
+}
+
+// Question 6.
+pub fn group_ready(s: State, c: u16) -> bool
+    ensures { λ r. ⌜ r ≡ groupReady s c ⌝ }
+{
+    let n = group::size(s, c);
+    let mut ready = true;
+    for k in 0..n {
+        if !is_ready(s, c + k) {
+            ready = false;
+        }
+    }
+    ready
+}
+
+// The channel j shows its PIN_CONTROL turned right by m places.
+fn shows_pattern(s: State, m: u16, j: u16) -> bool
+    requires { ⌜ m < 16 ⌝ }
+    ensures { λ r. ⌜ r ≡ showsPattern s m j ⌝ }
+{
+    parameters::word(s, j, 0) == rotation::rotate_right(parameters::word(s, j, 1), m)
+}
+
+// Each channel of the group shows its pattern turned by the primary's MOD_CNT.
+fn group_shows(s: State, c: u16) -> bool
+    ensures { λ r. ⌜ r ≡ all (size s c) c (showsPattern s (modCount s c)) ⌝ }
+{
+    let n = group::size(s, c);
+    let m = parameters::mod_count(s, c);
+    let mut shown = true;
+    for k in 0..n {
+        if !shows_pattern(s, m, c + k) {
+            shown = false;
+        }
+    }
+    shown
+}
+
+// Question 7.
+pub fn pattern_good(s: State, c: u16) -> bool
+    ensures { λ r. ⌜ r ≡ patternGood s c ⌝ }
+{
+    if !otherwise_zero(parameters::word(s, c, 4)) {
+        return false;
+    }
+    if parameters::next_rate(s, c) != 1 {
+        return false;
+    }
+    group_shows(s, c)
+}
+
+// Question 8.
+pub fn ramp_good(cntl0: u16, cntl1: u16, n: u16) -> bool
+    ensures { λ r. ⌜ r ≡ rampGood cntl0 cntl1 n ⌝ }
+{
+    if step::period(cntl0, cntl1, n) < 1 {
+        return false;
+    }
+    step::period(cntl0, cntl1, 1) <= 0x7fff
+}
+
+// Question 9.
+pub fn target_good(s: State, c: u16, t: u16) -> bool
+    ensures { λ r. ⌜ r ≡ targetGood s c t ⌝ }
+{
+    t <= 0xffff - parameters::top(s, c)
+}
