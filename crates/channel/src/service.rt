@@ -5,10 +5,10 @@ ghost use Prim.Native.Nat.{_%_};
 ghost use lib.Dec.{leb};
 ghost use Rattle.words.specs.Choice.{pick};
 ghost use Rattle.channel.specs.Service.{stirs, isTested, reference, decided, statusAfter};
+use crate::pending;
 use motor::Motor;
 use motor::Outcome;
 use motor::Phase;
-use words::clock;
 use words::field;
 
 // What was decided, and when: now, and the time for which a step sets its match.
@@ -22,12 +22,10 @@ pub struct Plan {
 pub fn stirs(p: Phase, now: u16) -> bool
     ensures { λ r. ⌜ r ≡ stirs p now ⌝ }
 {
-    match p {
-        Phase::Resting => false,
-        Phase::Requested => false,
-        Phase::Armed(time) => clock::due(now, time),
-        Phase::Matched(_) => true,
+    if pending::is_due(p, now) {
+        return true;
     }
+    pending::is_matched(p)
 }
 
 // A request of an enabled channel.

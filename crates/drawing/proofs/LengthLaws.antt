@@ -13,7 +13,7 @@ use Rattle.unit.specs.declared.Answer.the-variants.{Taken, Refused}
 use Rattle.unit.specs.Gate.{advanceGood}
 use Rattle.unit.specs.Calls.{readOf}
 use Rattle.unit.specs.OneTick.{afterTicks}
-use Rattle.unit.proofs.Tests.{and-left}
+use Rattle.words.proofs.ChoiceLaws.{and-left}
 use Rattle.text.specs.Ascii.{ascii}
 use Rattle.text.proofs.LengthLaws.{decimal-short}
 use Rattle.parse.specs.declared.Command.{Command}

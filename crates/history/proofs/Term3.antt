@@ -11,7 +11,7 @@ use lib.ListN.{getD, take}
 use borrow.Author.Tests.{eqb-true, eqb-false, le-leb}
 use Rattle.words.specs.Choice.{pick, ask}
 use Rattle.words.specs.Field.{bitOf}
-use Rattle.words.proofs.ChoiceLaws.{not-both, fails, tests}
+use Rattle.words.proofs.ChoiceLaws.{not-both, fails, tests, and-left, and-right}
 use Rattle.motor.specs.Group.{Group, bound, aimed}
 use Rattle.motor.specs.Group as group
 use Rattle.motor.specs.Count.{Target, Other, isTarget, Sight, Moment, Running, NoTarget, Dark, Linked, after, Counted}
@@ -32,7 +32,7 @@ use Rattle.unit.proofs.Reset.{Sized}
 use Rattle.history.proofs.Look.{look}
 use Rattle.history.proofs.Own.{viewIn, view, groupIn}
 use Rattle.history.proofs.Alone.{Alone}
-use Rattle.unit.proofs.Tests.{and-left, and-right, or-right}
+use Rattle.unit.proofs.Tests.{or-right}
 use Rattle.history.proofs.Held.{Held, is-free, rests-still, still-reach}
 use Rattle.history.proofs.Walk.{IfTaken, taken-answer, taken-yes, word-yes, RegisterDeeds, walk-place}
 use Rattle.unit.proofs.Places.{PlaceGood, place-good, gate-place}

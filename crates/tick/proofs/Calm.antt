@@ -7,11 +7,11 @@ use mathlib.Core.Path.{_≡_, refl}
 use lib.Dec.{ltb}
 use borrow.Author.Tests.{ltb-true, ltb-false}
 use Rattle.motor.specs.declared.Phase.{Phase}
-use Rattle.motor.specs.declared.Phase.the-variants.{Resting, Requested, Armed, Matched}
 use Rattle.unit.specs.declared.State.{State}
 use Rattle.unit.specs.TheUnit.{each, reg, request, hsrrOf, channel}
 use Rattle.unit.specs.OneTick.{matched, served}
 use Rattle.unit.specs.Pending.{isDue, isMatched}
+use Rattle.unit.proofs.Tests.{or-none}
 use Rattle.unit.proofs.Scans.{match-rests, passes-over, nothing-wanted}
 use Rattle.unit.proofs.Quiet.{each-rests}
 use Rattle.words.specs.Field.{field}
@@ -25,19 +25,10 @@ calm-next c f below here j h = by (ltb j c) refl
     by true e = below j (ltb-true j c e)
     by false e = let k : c ≡ j = omega (arith, h, ltb-false j c e) in rw (← k) here
 
-not-due : (p : Phase) (now : ℕ) → stirs p now ≡ false → isDue p now ≡ false
-unfolding stirs isDue
-not-due Resting now h = refl
-not-due Requested now h = refl
-not-due (Armed time) now h = h
-not-due (Matched captured) now h = refl
-
-not-matched : (p : Phase) (now : ℕ) → stirs p now ≡ false → isMatched p ≡ false
-unfolding stirs isMatched
-not-matched Resting now h = refl
-not-matched Requested now h = refl
-not-matched (Armed time) now h = refl
-not-matched (Matched captured) now h = h
+-- neither due nor happened
+not-stirring : (p : Phase) (now : ℕ) → stirs p now ≡ false → (isDue p now ≡ false) × (isMatched p ≡ false)
+unfolding stirs
+not-stirring p now h = or-none (isDue p now) (isMatched p) h
 
 no-request : (s : State) (c : ℕ) → reg s 7 ≡ 0 → reg s 8 ≡ 0 → c < 16 → request s c ≡ 0
 unfolding request hsrrOf field
@@ -49,5 +40,5 @@ no-request s c h7 h8 l = by (ltb c 8) refl
 
 pub calm-rests : (s : State) → reg s 7 ≡ 0 → reg s 8 ≡ 0 → ((c : ℕ) → c < 16 → stirs ((channel s c) .phase) (s .tcr1) ≡ false) → each 16 0 served (each 16 0 matched s) ≡ s
 calm-rests s h7 h8 calm =
-    let m : each 16 0 matched s ≡ s = each-rests 16 matched s (λ c l. match-rests s (0 + c) (not-due _ _ (calm (0 + c) (omega (arith, l))))) in
-    rw m (each-rests 16 served s (λ c l. passes-over s (0 + c) (nothing-wanted s (0 + c) (no-request s (0 + c) h7 h8 (omega (arith, l))) (not-matched _ _ (calm (0 + c) (omega (arith, l)))))))
+    let m : each 16 0 matched s ≡ s = each-rests 16 matched s (λ c l. match-rests s (0 + c) (not-stirring _ _ (calm (0 + c) (omega (arith, l))) .0)) in
+    rw m (each-rests 16 served s (λ c l. passes-over s (0 + c) (nothing-wanted s (0 + c) (no-request s (0 + c) h7 h8 (omega (arith, l))) (not-stirring _ _ (calm (0 + c) (omega (arith, l))) .1))))

@@ -208,13 +208,6 @@ match-parts s c = rw (pins-parts s c) refl
 pub in-sixteen : (w c : ℕ) → c < 16 → c + sizeIn w c ≤ 16
 in-sixteen w c h = omega (arith, h, field-lt 4 w 0)
 
--- what a test chose, b being its answer
-pub chosen : {A : Type 0} (b q : Bool) (x y z : A) → b ≡ q → b ≡ true → z ≡ x → z ≡ pick q x y
-chosen b q x y z e t h = rw (← e, t) h
-
-pub not-chosen : {A : Type 0} (b q : Bool) (x y z : A) → b ≡ q → b ≡ false → z ≡ y → z ≡ pick q x y
-not-chosen b q x y z e t h = rw (← e, t) h
-
 pub served-by : (s t u : State) (c : ℕ) (on : Bool) (r : ℕ) → on ≡ enabled s c → r ≡ request s c → t ≡ first on r c s → u ≡ then on r ((channel s c) .phase) c t → u ≡ served c s
 served-by s t u c on r e f g h = h ∙ (ap (then on r ((channel s c) .phase) c) g ∙ (rw (e, f) (served-in-turn s c)))
 

@@ -20,7 +20,8 @@ use Rattle.motor.specs.Group.{bound}
 use Rattle.motor.specs.Track.{stopPlace, distance}
 use Rattle.motor.specs.Count.{steps, movesOf, movesIn, latest, stopOf, stepsOf, ticksOf, ticksIn, isTarget, Moment, Running, Enabled, Undisturbed, after as seen-after}
 use Rattle.trials.specs.History.{setUp, onTheWay, after, history, Met}
-use Rattle.unit.proofs.Tests.{and-left, and-right, not-yes}
+use Rattle.unit.proofs.Tests.{not-yes}
+use Rattle.words.proofs.ChoiceLaws.{and-left, and-right}
 use Rattle.history.proofs.Term3.{term-3}
 
 -- tests over moments, which compute, and what they say

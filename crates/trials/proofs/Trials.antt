@@ -16,7 +16,7 @@ use Rattle.words.specs.Rotation.{rotatedRight, rotatedLeft}
 use Rattle.motor.specs.Stepping.{period, ahead, accelerates, choice, test, turn, onRequest, onMatch, beside}
 use Rattle.motor.specs.Group.{bound}
 use Rattle.trials.specs.Trials.{ready, rests, goes, numberOf, ticked, sameList, same, Trial, holds, table, AllHold, Trials}
-use Rattle.unit.proofs.Tests.{and-left, and-right}
+use Rattle.words.proofs.ChoiceLaws.{and-left, and-right}
 use Rattle.trials.proofs.Leaps.{quietOf, look, leapt, holdsLeapt, leapt-holds}
 
 -- the table as one test, which computes

@@ -7,13 +7,14 @@ use lib.Dec.{leb}
 use lib.ListN.{length}
 use Prim.Native.Nat.{_-_, _≤_}
 use Rattle.words.specs.Choice.{pick}
+use Rattle.words.proofs.ChoiceLaws.{takes-first, takes-second}
 use Rattle.unit.specs.TheUnit.{each, enabled, request, reg, channel, motorOf}
 use Rattle.unit.specs.Stepping.{outcome}
 use Rattle.unit.specs.OneTick.{served}
 use Rattle.access.proofs.Loops.{each-next}
 use Rattle.channel.specs.Service.{isTested, reference, decided}
 use Rattle.tick.specs.Parts.{requestDone}
-use Rattle.tick.proofs.PartLaws.{test-parts, same-way, all-served-long, chosen, not-chosen, first, then, served-by}
+use Rattle.tick.proofs.PartLaws.{test-parts, same-way, all-served-long, first, then, served-by}
 use Rattle.tick.proofs.serve_all.Statement.{statement}
 use Rattle.tick.proofs.serve_all.Tie as tie
 
@@ -81,14 +82,14 @@ loop-again c =
     let r = c .before .before .before .before .before .before .before .pending in
     let request : t ≡ first (on .result) (r .result) (l .c) (l .s) =
     ⊎-elim {C = t ≡ first (on .result) (r .result) (l .c) (l .s)}
-    (λ w. chosen _ (pick (on .result) (leb 2 (r .result)) false) (requestDone (l .s) (l .c) (r .result)) (l .s) t (c .before .before .before .is-asked .ensures) (w .0 .taken) (w .2 ∙ w .1 .ensures))
-    (λ w. not-chosen _ (pick (on .result) (leb 2 (r .result)) false) (requestDone (l .s) (l .c) (r .result)) (l .s) t (c .before .before .before .is-asked .ensures) (w .0 .left) (w .1))
+    (λ w. takes-first (pick (on .result) (leb 2 (r .result)) false) _ t (requestDone (l .s) (l .c) (r .result)) (l .s) (c .before .before .before .is-asked .ensures) (w .0 .taken) (w .2 ∙ w .1 .ensures))
+    (λ w. takes-second (pick (on .result) (leb 2 (r .result)) false) _ t (requestDone (l .s) (l .c) (r .result)) (l .s) (c .before .before .before .is-asked .ensures) (w .0 .left) (w .1))
     (c .before .before .if1 .came) in
     let after = outcome t (l .c) (reference p (t .tcr1)) (decided p (motorOf t (l .c))) in
     let test : c .if2 .s ≡ then (on .result) (r .result) p (l .c) t =
     ⊎-elim {C = c .if2 .s ≡ then (on .result) (r .result) p (l .c) t}
-    (λ w. chosen _ (isTested (on .result) (r .result) p) after t _ (c .before .is-tested .ensures) (w .0 .taken) (w .6 ∙ rw (w .4 .ensures .1, w .4 .ensures .0) (test-parts t (l .c) (channel (l .s) (l .c)) (same-way (on .result) (r .result) (l .c) (l .s) t request))))
-    (λ w. not-chosen _ (isTested (on .result) (r .result) p) after t _ (c .before .is-tested .ensures) (w .0 .left) (w .1))
+    (λ w. takes-first (isTested (on .result) (r .result) p) _ _ after t (c .before .is-tested .ensures) (w .0 .taken) (w .6 ∙ rw (w .4 .ensures .1, w .4 .ensures .0) (test-parts t (l .c) (channel (l .s) (l .c)) (same-way (on .result) (r .result) (l .c) (l .s) t request))))
+    (λ w. takes-second (isTested (on .result) (r .result) p) _ _ after t (c .before .is-tested .ensures) (w .0 .left) (w .1))
     (c .if2 .came) in
     (omega arith, served-by (l .s) t (c .if2 .s) (l .c) (on .result) (r .result) (on .ensures) (r .ensures) request test ∙ (ap (served (l .c)) (l .inv .1) ∙ sym (each-next (l .c) 0 (l .c) served _ (omega arith))))
 
