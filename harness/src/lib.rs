@@ -5,7 +5,8 @@
 //! happened while they ran, `compare` runs two units side by side, `term3`
 //! judges a unit by term 3, `shrink` shortens a list that shows a fault, and
 //! `report` tells of it; `hunt` puts these together. `script` is the script
-//! program over any unit.
+//! program over any unit. `ramp` is a second implementation of the ramp program
+//! of change request #101, and makes lines for it.
 
 pub mod archive;
 pub mod calls;
@@ -13,6 +14,7 @@ pub mod compare;
 pub mod hunt;
 pub mod packed;
 pub mod plain;
+pub mod ramp;
 pub mod random;
 pub mod report;
 pub mod script;

@@ -1,0 +1,3 @@
+pub mod ValueLaws
+pub mod FieldLaws
+pub mod NearestLaws

@@ -1,0 +1,3 @@
+pub mod NumeralLaws
+pub mod PartsLaws
+pub mod LengthLaws
