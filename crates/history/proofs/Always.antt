@@ -68,7 +68,7 @@ lit-reset =
 -- ---- any history
 
 state-words : (calls : List Call) (s : State) → (x : StateOf calls s) → Words (x .before)
-state-words calls s x = words-first (x .before) (x .rest) (subst Words (x .cut) (words-acts calls (x .typed)))
+state-words calls s x = words-first (x .before) (x .rest) (subst Words (x .cut) (words-acts calls (x .listed)))
 
 state-good : (calls : List Call) (s : State) → StateOf calls s → Good s
 state-good calls s x = subst Good (sym (x .reached)) (good-through (x .before) resetState (state-words calls s x) (fine-reset, every-reset, lit-reset))

@@ -166,7 +166,7 @@ take-moments (suc k) c s (x ∷ xs) = rw (take-moments k c (does x s) xs)
 -- ---- a cut of a history
 
 started : (r : Run) → Cut r → Fine (atRequest r)
-started r k = fine-through (r .before) resetState (words-first (r .before) _ (subst Words (k .whole) (words-acts (r .calls) (k .typed)))) fine-reset
+started r k = fine-through (r .before) resetState (words-first (r .before) _ (subst Words (k .whole) (words-acts (r .calls) (k .listed)))) fine-reset
 
 begun : (r : Run) → Cut r → Begun (r .c) (atStart r)
 begun r k = begin (r .c) (r .a) (r .v) (atRequest r) (started r k) (k .starts)
@@ -179,7 +179,7 @@ unfolding through
 wholes r k run =
     let b : Begun (r .c) (atStart r) = begun r k in
     let x : Chained (r .c) (atStart r) (r .gone) = chain (r .c) (r .gone) (atStart r) (ahead (r .c) (atStart r) (b .held)) (k .running) in
-    let w : Words (Writes (r .a) (r .v) ∷ (r .gone ++ (r .now ++ r .rest))) = words-second (r .before) _ (subst Words (k .whole) (words-acts (r .calls) (k .typed))) in
+    let w : Words (Writes (r .a) (r .v) ∷ (r .gone ++ (r .now ++ r .rest))) = words-second (r .before) _ (subst Words (k .whole) (words-acts (r .calls) (k .listed))) in
     let f : Fine (atStart r) = fine-through (Writes (r .a) (r .v) ∷ []) (atRequest r) (words-first (Writes (r .a) (r .v) ∷ []) _ w) (started r k) in
     let u : Words (r .gone ++ (r .now ++ r .rest)) = words-second (Writes (r .a) (r .v) ∷ []) _ w in
     whole-steps (r .c) (r .now) (atCount r) (x .ahead) (fine-through (r .gone) (atStart r) (words-first (r .gone) _ u) f) (words-first (r .now) (r .rest) (words-second (r .gone) _ u)) run

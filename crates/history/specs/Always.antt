@@ -27,13 +27,18 @@ pub record GroupShown (p : ℕ) (s : State) : Type 0 where
   pub rates : otherwiseZero (word s p 4) ≡ true
   pub channels : (j : ℕ) → p ≤ j → j ≤ last s p → ChannelShown (modCount s p) j s
 
--- s is a state of the history of these calls: right after a call, or after a tick inside an advance
-pub record StateOf (calls : List Call) (s : State) : Type 0 where
-  pub typed : Typed calls
+-- `Listed` says which lists of calls are meant. The calls are such a list, and s is a state of their history: right after a call, or
+-- after a tick inside an advance.
+pub record StateIn (Listed : List Call → Type 0) (calls : List Call) (s : State) : Type 0 where
+  pub listed : Listed calls
   pub before : List Act
   pub rest : List Act
   pub cut : acts calls ≡ before ++ rest
   pub reached : s ≡ through resetState before
+
+-- of any list of calls whose written values are words
+abbrev pub StateOf : List Call → State → Type 0
+StateOf = StateIn Typed
 
 -- the initialise that was pending is done: the pin is bit 15 of PIN_CONTROL
 pub record ByInitialise (j : ℕ) (s : State) : Type 0 where
@@ -48,12 +53,17 @@ pub record ByMatch (j : ℕ) (s : State) : Type 0 where
   pub level : ((actsAt ((channel s primary) .phase) ((tick s) .tcr1) ≡ true) × (pin (tick s) j ≡ (channel s j) .level))
       ⊎ (((channel (tick s) primary) .phase ≡ Matched ((tick s) .tcr1)) × (pin (tick s) j ≡ (channel (tick s) j) .level))
 
-pub record Always : Type 0 where
+-- what is claimed of every list of calls that is `Listed`
+pub record AlwaysOf (Listed : List Call → Type 0) : Type 0 where
   -- a bound group is set up and shows its pattern
-  pub shown : (calls : List Call) (s : State) → StateOf calls s → (p : ℕ) → p < 16 → stepping s p ≡ true → GroupShown p s
+  pub shown : (calls : List Call) (s : State) → StateIn Listed calls s → (p : ℕ) → p < 16 → stepping s p ≡ true → GroupShown p s
   -- an initialised channel that is not bound shows bit 15 of its CHANNEL_CONTROL
-  pub rests : (calls : List Call) (s : State) → StateOf calls s → (j : ℕ) → j < 16 → isBound s j ≡ false → (channel s j) .initialised ≡ true → pin s j ≡ bitOf (channelControl s j) 15
+  pub rests : (calls : List Call) (s : State) → StateIn Listed calls s → (j : ℕ) → j < 16 → isBound s j ≡ false → (channel s j) .initialised ≡ true → pin s j ≡ bitOf (channelControl s j) 15
   -- where a tick changes a pin, its channel was initialised or a match of its group acted
-  pub pins : (calls : List Call) (s : State) → StateOf calls s → (j : ℕ) → j < 16 → pin (tick s) j ≢ pin s j → ByInitialise j s ⊎ ByMatch j s
+  pub pins : (calls : List Call) (s : State) → StateIn Listed calls s → (j : ℕ) → j < 16 → pin (tick s) j ≢ pin s j → ByInitialise j s ⊎ ByMatch j s
   -- a position changes in a tick only while its group is under way, so only while each of its channels is set up
-  pub moves : (calls : List Call) (s : State) → StateOf calls s → (p : ℕ) → p < 16 → position (tick s) p ≢ position s p → (stepping s p ≡ true) × GroupShown p s
+  pub moves : (calls : List Call) (s : State) → StateIn Listed calls s → (p : ℕ) → p < 16 → position (tick s) p ≢ position s p → (stepping s p ≡ true) × GroupShown p s
+
+-- of every list of calls whose written values are words
+abbrev pub Always : Type 0
+Always = AlwaysOf Typed

@@ -68,32 +68,41 @@ momentsGone r = moments (r .c) (atStart r) (r .gone)
 abbrev pub momentsNow : Run → List Moment
 momentsNow r = moments (r .c) (atCount r) (r .now)
 
--- the cut is one of a list of calls, the request sets the motor going, and the motor has not arrived before the count begins
-pub record Cut (r : Run) : Type 0 where
-  pub typed : Typed (r .calls)
+-- `Listed` says which lists of calls are meant. The cut is one of such a list, the request sets the motor going, and the motor has
+-- not arrived before the count begins.
+pub record CutOf (Listed : List Call → Type 0) (r : Run) : Type 0 where
+  pub listed : Listed (r .calls)
   pub whole : acts (r .calls) ≡ r .before ++ (Writes (r .a) (r .v) ∷ (r .gone ++ (r .now ++ r .rest)))
   pub starts : SetsGoing (r .c) (r .a) (r .v) (atRequest r)
   pub running : Running (momentsGone r)
   pub bound : isBound (atCount r) (r .c) ≡ true
 
--- what is claimed of it
-pub record Term3 : Type 0 where
+-- of any list of calls whose written values are words
+abbrev pub Cut : Run → Type 0
+Cut = CutOf Typed
+
+-- what is claimed of every list of calls that is `Listed`
+pub record Term3Of (Listed : List Call → Type 0) : Type 0 where
   -- up to the arrival or the next target taken
-  pub counted : (r : Run) → Cut r → Running (momentsNow r) → NoTarget (momentsNow r)
+  pub counted : (r : Run) → CutOf Listed r → Running (momentsNow r) → NoTarget (momentsNow r)
       → Counted (firstPeriod (r .c) (atCount r)) (see (r .c) (atStart r)) (momentsGone r) (momentsNow r)
   -- document 01 counts from the request, and from a target taken; its target is then the word that was written
-  pub from-request : (r : Run) → Cut r → r .gone ≡ [] → Running (momentsNow r) → NoTarget (momentsNow r)
+  pub from-request : (r : Run) → CutOf Listed r → r .gone ≡ [] → Running (momentsNow r) → NoTarget (momentsNow r)
       → Counted (firstPeriod (r .c) (atStart r)) (see (r .c) (atStart r)) [] (moments (r .c) (atStart r) (r .now))
-  pub from-target : (r : Run) → Cut r → (earlier : List Act) (a v : ℕ) → r .gone ≡ earlier ++ (Writes a v ∷ []) → eventOf (r .c) (Writes a v) (through (atStart r) earlier) ≡ Target
+  pub from-target : (r : Run) → CutOf Listed r → (earlier : List Act) (a v : ℕ) → r .gone ≡ earlier ++ (Writes a v ∷ []) → eventOf (r .c) (Writes a v) (through (atStart r) earlier) ≡ Target
       → Running (momentsNow r) → NoTarget (momentsNow r)
       → (target (atCount r) (r .c) ≡ v) × Counted (firstPeriod (r .c) (atCount r)) (see (r .c) (atStart r)) (momentsGone r) (momentsNow r)
   -- each tick is one step as under Stepping, or none
-  pub whole : (r : Run) → Cut r → Running (momentsNow r) → WholeSteps (r .c) (atCount r) (r .now)
+  pub whole : (r : Run) → CutOf Listed r → Running (momentsNow r) → WholeSteps (r .c) (atCount r) (r .now)
   -- at the arrival
-  pub freed : (r : Run) → Cut r → Running (momentsNow r) → NoTarget (momentsNow r) → isBound (atEnd r) (r .c) ≡ false → Freed (r .c) (atEnd r)
+  pub freed : (r : Run) → CutOf Listed r → Running (momentsNow r) → NoTarget (momentsNow r) → isBound (atEnd r) (r .c) ≡ false → Freed (r .c) (atEnd r)
   -- nothing of the run before the count sets the status bit, the request included
-  pub dark : (r : Run) → Cut r → Dark (moments (r .c) (atRequest r) (Writes (r .a) (r .v) ∷ r .gone))
+  pub dark : (r : Run) → CutOf Listed r → Dark (moments (r .c) (atRequest r) (Writes (r .a) (r .v) ∷ r .gone))
   -- with the priority never 00 from the request on and no target taken, so many ticks bring it to its target
-  pub arrives : (r : Run) → Cut r → Enabled (momentsGone r) → Undisturbed (momentsNow r)
+  pub arrives : (r : Run) → CutOf Listed r → Enabled (momentsGone r) → Undisturbed (momentsNow r)
       → 1 + firstPeriod (r .c) (atCount r) * (steps (firstPeriod (r .c) (atCount r)) (see (r .c) (atStart r)) (momentsGone r) (momentsNow r) + 1) ≤ ticksIn (momentsNow r)
       → Arrives (firstPeriod (r .c) (atCount r)) (see (r .c) (atStart r)) (momentsGone r) (momentsNow r)
+
+-- term 3: of every list of calls whose written values are words
+abbrev pub Term3 : Type 0
+Term3 = Term3Of Typed

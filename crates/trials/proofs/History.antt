@@ -78,7 +78,7 @@ cut : Cut history
 unfolding withWords withReg withTime withPins withChannel each all any cfsrOf hsrrOf cprOf reg function request withRequest enabled status withStatus withPin channel withInitialised withLevel withPhase word withWord exists channelControl pinControl position target modCount nextRate top last cntl0 cntl1 size motorOf stepping reaches isBound pinOut pinsOut nextCount turnedOnce prepared matchSet stepped outcome matchOf matched initialise stepRequest requestServed matchServed served clocked tick afterTicks place isPlace inList isFree isStepper mayInitialise otherwiseZero spanGood isReady groupReady showsPattern patternGood rampGood targetGood advanceGood requested askInitialise askStep askChannel andThen askChannels verdictOf keepsOrFree askRegister askWord askPlace gate requestedOne stored done answeredBy writeOf advanceOf actsOf acts does through Typed see isTaken isTargetOf isStepOf eventOf moments firstPeriod ask since due later field withField bitOf rotatedRight rotatedLeft period ahead accelerates choice test turn onRequest onMatch beside bound stopPlace distance movesOf movesIn latest stopOf stepsOf ticksOf ticksIn isTarget setUp onTheWay after history allBound allEnabled calm
 cut =
     record {
-      typed = (omega arith, (omega arith, (omega arith, (omega arith, (omega arith, (omega arith, (omega arith, (omega arith, (omega arith, (omega arith, (omega arith, (omega arith, (omega arith, (omega arith, (omega arith, (omega arith, (omega arith, (omega arith, (omega arith, (omega arith, (omega arith, (omega arith, (omega arith, (omega arith, (omega arith, (omega arith, (omega arith, (omega arith, (omega arith, (omega arith, tt))))))))))))))))))))))))))))));
+      listed = (omega arith, (omega arith, (omega arith, (omega arith, (omega arith, (omega arith, (omega arith, (omega arith, (omega arith, (omega arith, (omega arith, (omega arith, (omega arith, (omega arith, (omega arith, (omega arith, (omega arith, (omega arith, (omega arith, (omega arith, (omega arith, (omega arith, (omega arith, (omega arith, (omega arith, (omega arith, (omega arith, (omega arith, (omega arith, (omega arith, tt))))))))))))))))))))))))))))));
       whole = refl;
       starts = starts;
       running = running (momentsGone history) gone-bound;

@@ -1,0 +1,3 @@
+pub mod FindingLaws
+pub mod SoundLaws
+pub mod WordLaws

@@ -1,0 +1,69 @@
+-- Every history of a board: its list of calls has saves and loads beside the unit's reads, writes and advances. Paper 02, #102.
+use Prim.Native.Nat.{ℕ}
+use mathlib.Core.List.{List, [], _∷_, _++_}
+use mathlib.Core.Path.{_≡_}
+use Rattle.words.specs.Choice.{pick}
+use Rattle.unit.specs.declared.State.{State}
+use Rattle.unit.specs.TheUnit.{resetState}
+use Rattle.unit.specs.Calls.{Call, run}
+use Rattle.unit.specs.Calls as calls
+use Rattle.history.specs.Moments.{Typed}
+use Rattle.history.specs.Term3.{Term3Of}
+use Rattle.history.specs.Always.{AlwaysOf}
+use Rattle.blocks.specs.Claims.{Bytes}
+use Rattle.settings.specs.declared.Which.{Which}
+use Rattle.settings.specs.declared.Chosen.{Chosen}
+use Rattle.settings.specs.declared.Chosen.the-variants.{No, Block}
+use Rattle.settings.specs.Layout.{loadCalls}
+use Rattle.settings.specs.Keeping.{chosen, allFree, loadOf}
+
+-- a call of the board: one of the unit's, or one with the store that is lent to it
+pub data BoardCall : Type 0 where
+  OfUnit : Call → BoardCall
+  Save : List ℕ → BoardCall
+  Load : Which → List ℕ → BoardCall
+
+-- the state that it returns; a save returns none, the unit keeps its own
+unfoldable pub after : BoardCall → State → State
+after (OfUnit x) s = calls.after x s
+after (Save b) s = s
+after (Load w b) s = (loadOf s w b) .state
+
+unfoldable pub boardRun : State → List BoardCall → State
+boardRun s [] = s
+boardRun s (x ∷ xs) = boardRun (after x s) xs
+
+-- the unit's calls that a load comes to: its writes, or none where it is refused
+unfoldable pub played : State → List ℕ → Chosen → List Call
+played s b (No n) = []
+played s b (Block k) = pick (allFree s) (loadCalls b k) []
+
+unfoldable pub unitCalls : BoardCall → State → List Call
+unitCalls (OfUnit x) s = x ∷ []
+unitCalls (Save b) s = []
+unitCalls (Load w b) s = played s b (chosen b w)
+
+unfoldable pub allCalls : State → List BoardCall → List Call
+allCalls s [] = []
+allCalls s (x ∷ xs) = unitCalls x s ++ allCalls (after x s) xs
+
+-- the values that are written are words, and a store that is loaded from has bytes
+unfoldable pub TypedBoard : List BoardCall → Type 0
+TypedBoard [] = Unit {0}
+TypedBoard (OfUnit x ∷ xs) = Typed (x ∷ []) × TypedBoard xs
+TypedBoard (Save b ∷ xs) = TypedBoard xs
+TypedBoard (Load w b ∷ xs) = Bytes b × TypedBoard xs
+
+-- a list of the unit's calls to which a list of the board's comes from reset
+pub record FromBoard (listed : List Call) : Type 0 where
+  pub board : List BoardCall
+  pub typed : TypedBoard board
+  pub come : listed ≡ allCalls resetState board
+
+pub record BoardHistory : Type 0 where
+  -- a list of the board's calls returns what the unit's calls return to which it comes, and so does each part of it
+  pub returns : (s : State) (xs : List BoardCall) → boardRun s xs ≡ run s (allCalls s xs)
+  pub parts : (s : State) (xs ys : List BoardCall) → allCalls s (xs ++ ys) ≡ allCalls s xs ++ allCalls (boardRun s xs) ys
+  -- term 3, and what always holds, of every list of the board's calls
+  pub term-3 : Term3Of FromBoard
+  pub always : AlwaysOf FromBoard

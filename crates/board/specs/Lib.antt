@@ -1,0 +1,4 @@
+pub mod Saves
+pub mod Loads
+pub mod RoundTrip
+pub mod History

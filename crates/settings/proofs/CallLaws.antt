@@ -1,0 +1,60 @@
+-- One setting read, one word of a block more, one write of a load more.
+use Prim.Native.Nat.{ℕ, _+_, _-_, _%_, _<_}
+use native.Mathlib.Numerals.{add-one}
+use mathlib.Core.List.{List, [], _∷_, _++_}
+use mathlib.Core.Path.{_≡_, refl, sym, _∙_}
+use borrow.Author.Tests.{lt-ltb}
+use Rattle.words.specs.Choice.{ask}
+use Rattle.unit.specs.declared.State.{State}
+use Rattle.unit.specs.declared.Reading.{Reading}
+use Rattle.unit.specs.declared.Reading.the-variants.{Word, Refused}
+use Rattle.unit.specs.declared.Place.{Place}
+use Rattle.unit.specs.declared.Place.the-variants.{AtRegister, AtWord, Nowhere}
+use Rattle.unit.specs.Gate.{place, isPlace, inList}
+use Rattle.unit.specs.declared.Answered.{Answered}
+use Rattle.unit.specs.Calls.{wordAt, readOf, writeOf, Call, after, run}
+use Rattle.blocks.specs.Blocks.{wordIn, withWord, laid, sum, checkWord}
+use Rattle.settings.specs.Layout.{settingAddress, setting, heldWord, blockWord, settingWrites}
+
+-- the word of a reading, 0 where it is refused
+abbrev pub shown : Reading → ℕ
+shown (Word w) = w
+shown (Refused n) = 0
+
+read-shows : (s : State) (p : Place) → shown (ask (isPlace p) (Refused 1) (Word (wordAt s p))) ≡ wordAt s p
+unfolding ask isPlace wordAt
+read-shows s (AtRegister i) = refl
+read-shows s (AtWord c i) = refl
+read-shows s Nowhere = refl
+
+pub reads-setting : (s : State) (n a : ℕ) (r q : Reading) → a ≡ settingAddress n → r ≡ readOf s a → r ≡ q → shown q ≡ setting s n
+unfolding readOf inList setting
+reads-setting s n a r q e f g = rw (sym g ∙ f, e) (read-shows s (place (settingAddress n)))
+
+-- ---- a block
+
+-- one word more is laid
+pub laid-next : (f : ℕ → ℕ) (b was is : List ℕ) (k i w : ℕ) → was ≡ laid f b k i → is ≡ withWord was k i w → w ≡ f i → is ≡ laid f b k (i + 1)
+unfolding laid
+laid-next f b was is k i w e g h = rw (add-one, g, e, h)
+
+pub block-word : (s : State) (v i : ℕ) → i < 255 → blockWord s v i ≡ heldWord s v i
+unfolding blockWord
+block-word s v i l = rw (lt-ltb i 255 l)
+
+pub check-block : (s : State) (v total : ℕ) → total ≡ sum (heldWord s v) 255 % 65536 → 0xffff - total ≡ blockWord s v 255
+unfolding blockWord checkWord
+check-block s v total e = rw e
+
+-- ---- a load
+
+pub run-append : (s : State) (xs ys : List Call) → run s (xs ++ ys) ≡ run (run s xs) ys
+unfolding run
+run-append s [] ys = refl
+run-append s (x ∷ xs) ys = run-append (after x s) xs ys
+
+-- one setting more is written
+pub written-next : (start was : State) (r : Answered) (b : List ℕ) (k n a v : ℕ) → was ≡ run start (settingWrites b k n)
+    → r ≡ writeOf was a v → a ≡ settingAddress n → v ≡ wordIn b k (3 + n) → r .state ≡ run start (settingWrites b k (n + 1))
+unfolding settingWrites after run
+written-next start was r b k n a v e f g h = rw (add-one, run-append start (settingWrites b k n) (_ ∷ []), f, g, h, e)

@@ -1,0 +1,80 @@
+// Which block is loaded, and its writes.
+ghost use mathlib.Core.Path.{_≡_};
+ghost use Rattle.unit.specs.Calls.{run};
+ghost use Rattle.settings.specs.Layout.{loadCalls};
+ghost use Rattle.settings.specs.Keeping.{sought, chosen, allFree, loadFrom};
+ghost use Rattle.settings.specs.declared.Chosen.the-variants.{Block};
+use crate::Chosen;
+use crate::Kept;
+use crate::Loaded;
+use crate::Which;
+use crate::layout;
+use blocks::Found;
+use blocks::Search;
+use unit::State;
+
+fn sought(which: Which) -> Search
+    ensures { λ r. ⌜ r ≡ sought which ⌝ }
+{
+    match which {
+        Which::Latest => Search::Newest,
+        Which::Version(v) => Search::Named(v),
+    }
+}
+
+// What the store refuses comes first: 12 where nothing is found, 13 where the layout is not known.
+pub fn chosen(store: &[u8], which: Which) -> Chosen
+    ensures { λ r. ⌜ r ≡ chosen (now (store .entry)) which ⌝ }
+{
+    let at = blocks::find(store, sought(which));
+    let Found::At(k) = at else {
+        return Chosen::No(12);
+    };
+    if blocks::word(store, k, 0) != layout::LAYOUT {
+        return Chosen::No(13);
+    }
+    Chosen::Block(k)
+}
+
+fn all_free(s: State) -> bool
+    ensures { λ r. ⌜ r ≡ allFree s ⌝ }
+{
+    let mut free = true;
+    for c in 0..16 {
+        free = free & group::is_free(s, c);
+    }
+    free
+}
+
+// One ordinary write after another, in the order of the block.
+fn played(mut s: State, store: &[u8], k: u8) -> State
+    ensures { λ r. ⌜ r ≡ run s (loadCalls (now (store .entry)) k) ⌝ }
+{
+    for n in 0..layout::SETTINGS {
+        let written = tpu::write(
+            s,
+            layout::address(n),
+            blocks::word(store, k, layout::FIRST + n),
+        );
+        let next = written.state;
+        s = next;
+    }
+    s
+}
+
+pub fn from(s: State, store: &[u8], k: u8) -> Loaded
+    ensures { λ r. ⌜ r ≡ loadFrom s (now (store .entry)) (Block k) ⌝ }
+{
+    if !all_free(s) {
+        return Loaded {
+            answer: Kept::Refused(2),
+            state: s,
+        };
+    }
+    let version = blocks::version(store, k);
+    let next = played(s, store, k);
+    Loaded {
+        answer: Kept::Taken(version),
+        state: next,
+    }
+}
