@@ -73,8 +73,9 @@ fn ask(answer: bool, number: u8) -> Result<(), u8> {
     }
 }
 
-/// A fault to be found. The first four are those of document 01, the last is
-/// the first board that its conditions of acceptance shut out.
+/// A fault to be found. The first four are those of document 01, the fifth is
+/// the first board that its conditions of acceptance shut out, the last is the
+/// turn as it was before paper 02, #103.
 #[derive(Clone, Copy, Debug, PartialEq, Eq)]
 pub enum Blunder {
     /// MOD_CNT counts visits to a turn, not steps.
@@ -87,6 +88,8 @@ pub enum Blunder {
     KeepsTarget,
     /// The status bit is set when a step request is taken.
     LightsAtRequest,
+    /// The motor takes up speed at a distance of N already.
+    AcceleratesAtN,
 }
 
 #[derive(Clone, Copy, Default)]
@@ -433,9 +436,10 @@ impl Plain {
         }
         let n = self.rate_count(c);
         let rate = self.next_rate(c);
+        let at_n = ahead == i32::from(n) && self.makes(Blunder::AcceleratesAtN);
         if self.makes(Blunder::TurnsWhileFast) && ahead == 0 && to_the_right != 0 {
             self.turn(c, !right, reference);
-        } else if ahead >= i32::from(n) {
+        } else if ahead > i32::from(n) || at_n {
             let faster = if rate < n { rate + 1 } else { rate };
             self.step(c, right, faster, reference);
         } else if rate > 1 {

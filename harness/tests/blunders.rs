@@ -9,13 +9,15 @@ use harness::script::Script;
 use harness::term3::{judge, Judged};
 
 /// Each with whether term 3 forbids it. A pattern that is a step out changes
-/// no position, rate or time: term 3 says nothing of it.
-const BLUNDERS: [(Blunder, bool); 5] = [
+/// no position, rate or time: term 3 says nothing of it. Nor does it say when
+/// a motor takes up speed: the steps that it promises are the same.
+const BLUNDERS: [(Blunder, bool); 6] = [
     (Blunder::CountsVisits, false),
     (Blunder::ComparesPlainly, true),
     (Blunder::TurnsWhileFast, true),
     (Blunder::KeepsTarget, true),
     (Blunder::LightsAtRequest, true),
+    (Blunder::AcceleratesAtN, false),
 ];
 
 fn breaks_term_3(blunder: Blunder, calls: &[Call]) -> bool {

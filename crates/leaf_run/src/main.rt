@@ -1,5 +1,5 @@
 // Runs vectors over the functions of `words` and `motor` and prints what they answer.
-// The expected answers, beside this folder in `stdout`, are worked out by hand from document 01.
+// The expected answers, beside this folder in `stdout`, are worked out by hand from document 01 and #103 of paper 02.
 use libc::STDOUT_FILENO;
 use motor::Motor;
 use motor::Outcome;

@@ -1,5 +1,5 @@
 // Runs the trials of document 01 over the calls of the timer unit and prints what they measure, a line a trial.
-// The expected lines, beside this folder in `stdout`, are worked out by hand from that document.
+// The expected lines, beside this folder in `stdout`, are worked out by hand from that document and #103 of paper 02.
 mod bench;
 mod run;
 mod show;

@@ -1,4 +1,5 @@
--- Document 01, "Trials": those marked to be proved of the definitions, as one table. Moves start from reset, by real writes.
+-- Document 01, "Trials": those marked to be proved of the definitions, as one table, with the figures of paper 02, #103, beyond a
+-- distance of N and at it. Moves start from reset, by real writes; their ticks are counted from the request, which tick 1 serves.
 use Prim.Native.Nat.{ℕ, zero, suc, _+_, _*_}
 use mathlib.Core.Bool.{Bool, true, false, not, _&&_}
 use mathlib.Core.List.{List, [], _∷_}
@@ -99,10 +100,11 @@ unfoldable pub table : List Trial
 table =
     Period 20 440 1 400 ∷ Period 20 440 10 220 ∷ Period 77 3487 1 3333 ∷ Period 77 3487 14 2332
     ∷ Request 3 20 81 0 ∷ Request 3 20 80 8 ∷ Request 3 0 32767 0 ∷ Request 3 0 32768 8
-    ∷ Steps 0 10 (1 ∷ 401 ∷ 781 ∷ 1141 ∷ 1501 ∷ 1861 ∷ 2221 ∷ 2581 ∷ 2941 ∷ 3301 ∷ 3681 ∷ [])
-    ∷ Steps 0 3 (1 ∷ 401 ∷ 781 ∷ 1181 ∷ []) ∷ Steps 0 2 (1 ∷ 401 ∷ 801 ∷ []) ∷ Steps 0 0 (1 ∷ [])
-    ∷ Steps 3 0 (1 ∷ 401 ∷ 781 ∷ 1181 ∷ []) ∷ Steps 2 0 (1 ∷ 401 ∷ 801 ∷ [])
-    ∷ Back (4 ∷ 5 ∷ 4 ∷ 3 ∷ 2 ∷ 1 ∷ 3401 ∷ [])
+    ∷ Steps 0 10 (1 ∷ 401 ∷ 781 ∷ 1141 ∷ 1501 ∷ 1861 ∷ 2221 ∷ 2581 ∷ 2941 ∷ 3321 ∷ 3721 ∷ [])
+    ∷ Steps 0 3 (1 ∷ 401 ∷ 801 ∷ 1201 ∷ []) ∷ Steps 0 2 (1 ∷ 401 ∷ 801 ∷ []) ∷ Steps 0 0 (1 ∷ [])
+    ∷ Steps 3 0 (1 ∷ 401 ∷ 801 ∷ 1201 ∷ []) ∷ Steps 2 0 (1 ∷ 401 ∷ 801 ∷ [])
+    ∷ Steps 0 4 (1 ∷ 401 ∷ 781 ∷ 1181 ∷ 1581 ∷ []) ∷ Steps 4 0 (1 ∷ 401 ∷ 781 ∷ 1181 ∷ 1581 ∷ [])
+    ∷ Back (4 ∷ 5 ∷ 4 ∷ 3 ∷ 2 ∷ 1 ∷ 3461 ∷ [])
     ∷ Level 0xcccc 0 true ∷ Level 0xcccc 1 false ∷ Level 0xcccc 2 false ∷ Level 0xcccc 3 true ∷ Level 0xcccc 4 true
     ∷ Due 3 0xfffe true ∷ Due 3 0x8004 true ∷ Due 3 0x8003 false ∷ []
 
