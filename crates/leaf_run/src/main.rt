@@ -112,7 +112,7 @@ fn later(time: u16, count: u16) {
     text(b"\n");
 }
 
-// The levels of $CCCC by MOD_CNT, and both rotations at their ends.
+// The levels of $CCCC by MOD_CNT, and rotation both ways at its ends.
 fn patterns() {
     text(b"levels of $CCCC");
     level(0xCCCC, 0);
@@ -129,7 +129,7 @@ fn patterns() {
 }
 
 fn level(pattern: u16, count: u16) {
-    flag(field::bit(rotation::rotate_right(pattern, count), 15));
+    flag(field::bit(rotation::rotate(pattern, count), 15));
 }
 
 fn rotate(w: u16, places: u16) {
@@ -137,9 +137,9 @@ fn rotate(w: u16, places: u16) {
     word(w);
     number(places);
     text(b" right");
-    word(rotation::rotate_right(w, places));
+    word(rotation::rotate(w, places));
     text(b" left");
-    word(rotation::rotate_left(w, places));
+    word(rotation::rotate(w, 16 - places % 16));
     text(b"\n");
 }
 

@@ -96,7 +96,7 @@ fn shows_pattern(s: State, m: u16, j: u16) -> bool
     requires { ⌜ m < 16 ⌝ }
     ensures { λ r. ⌜ r ≡ showsPattern s m j ⌝ }
 {
-    parameters::word(s, j, 0) == rotation::rotate_right(parameters::word(s, j, 1), m)
+    parameters::word(s, j, 0) == rotation::rotate(parameters::word(s, j, 1), m)
 }
 
 // Each channel of the group shows its pattern turned by the primary's MOD_CNT.
