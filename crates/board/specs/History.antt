@@ -9,6 +9,7 @@ use Rattle.unit.specs.Calls.{Call, run}
 use Rattle.unit.specs.Calls as calls
 use Rattle.history.specs.Moments.{Typed}
 use Rattle.history.specs.Term3.{Term3Of}
+use Rattle.history.specs.SlowMoves.{SlowMovesOf}
 use Rattle.history.specs.Always.{AlwaysOf}
 use Rattle.blocks.specs.Claims.{Bytes}
 use Rattle.settings.specs.declared.Which.{Which}
@@ -64,6 +65,7 @@ pub record BoardHistory : Type 0 where
   -- a list of the board's calls returns what the unit's calls return to which it comes, and so does each part of it
   pub returns : (s : State) (xs : List BoardCall) → boardRun s xs ≡ run s (allCalls s xs)
   pub parts : (s : State) (xs ys : List BoardCall) → allCalls s (xs ++ ys) ≡ allCalls s xs ++ allCalls (boardRun s xs) ys
-  -- term 3, and what always holds, of every list of the board's calls
+  -- term 3, what always holds, and the speeds of request #103, of every list of the board's calls
   pub term-3 : Term3Of FromBoard
   pub always : AlwaysOf FromBoard
+  pub slow-moves : SlowMovesOf FromBoard

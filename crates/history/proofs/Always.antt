@@ -1,30 +1,34 @@
 -- In every history each group under way is held and shown, and the pins show what they should.
-use Prim.Native.Nat.{ℕ, _*_, _%_, _^_, _<_}
+use Prim.Native.Nat.{ℕ, _+_, _-_, _*_, _/_, _%_, _^_, _<_}
 use native.Mathlib.Omega.{arith}
-use mathlib.Core.Bool.{Bool, true, false}
+use mathlib.Core.Bool.{Bool, true, false, not}
 use mathlib.Core.List.{List, [], _∷_}
 use mathlib.Core.Path.{_≡_, refl, ap, sym, subst, _∙_}
 use mathlib.Core.Logic.{_≢_, _⊎_, inl, inr, ⊎-elim}
 use native.Mathlib.Nat.{zero-div}
-use borrow.Author.Tests.{le-leb}
+use lib.Dec.{eqb}
+use borrow.Author.Tests.{le-leb, eq-eqb, ne-eqb, eqb-true, eqb-false}
 use Rattle.words.specs.Choice.{pick}
-use Rattle.words.specs.Clock.{due}
-use Rattle.words.specs.Field.{field}
-use Rattle.words.proofs.ChoiceLaws.{not-both}
+use Rattle.words.specs.Field.{field, bitOf}
+use Rattle.words.proofs.ChoiceLaws.{pick-cases, not-both, and-right}
 use Rattle.motor.specs.Group.{bound}
 use Rattle.unit.specs.declared.State.{State}
 use Rattle.unit.specs.declared.Channel.{Channel}
-use Rattle.unit.specs.TheUnit.{reg, hsrrOf, pin, reaches, isBound, last, idle, resetState, request, channel, channelControl, pinControl, position, stepping}
-use Rattle.history.specs.OneStep.{actsAt, pinAfterMatch, StepIs, StillIs}
+use Rattle.unit.specs.TheUnit.{reg, cprOf, enabled, status, word, hsrrOf, pin, reaches, isBound, last, idle, resetState, request, channel, channelControl, pinControl, position, stepping}
+use Rattle.history.specs.OneStep.{isPast, Enabled, actsAt, pinAfterMatch, StepIs, StillIs}
 use Rattle.unit.specs.OneTick.{tick}
+use Rattle.unit.specs.Gate.{mayInitialise}
 use Rattle.unit.specs.Calls.{Call}
-use Rattle.history.specs.Moments.{Act, Ticks as ticks, Writes as writes, Nothing as nothing, does, through}
-use Rattle.history.specs.Always.{GroupShown, StateOf, ByInitialise, ByMatch, Always}
+use Rattle.history.specs.Moments.{Act, Ticks as ticks, Writes as writes, Nothing as nothing, does, through, priorityOf}
+use Rattle.history.specs.Always.{GroupShown, StateOf, ByInitialise, ByMatch, Pending, InitialiseIs, Untouched, Always}
 use Rattle.history.proofs.Alone.{fades-tick}
 use Rattle.history.proofs.Held.{Held}
 use Rattle.history.proofs.Parts.{Part, part}
 use Rattle.history.proofs.WholeSteps.{tick-is}
 use Rattle.history.proofs.Pins.{initialisedPart, Initialises}
+use Rattle.history.proofs.Begin.{unreached, unbound-still}
+use Rattle.history.proofs.Asked.{asked}
+use Rattle.history.proofs.Initialise.{Settled, settled}
 use Rattle.history.proofs.Lit.{Lit, ReachedBy, reached-by, tick-outcome, initialised-pin, lit-tick}
 use Rattle.unit.proofs.Reset.{same-all}
 use Rattle.history.proofs.Fine.{Fine, fine-reset, fine-tick}
@@ -99,9 +103,9 @@ module _ (j : ℕ) (s : State) (r : ReachedBy j s) (n : pin (tick s) j ≢ pin s
 
   stepped : StepIs (r .primary) s (tick s) → ByMatch j s
   unfolding pinAfterMatch
-  stepped y = by (due ((tick s) .tcr1) (y .match .time)) refl ((y .channels j (r .above) (r .below)) .pin)
+  stepped y = by (isPast ((tick s) .tcr1) (y .match .time)) refl ((y .channels j (r .above) (r .below)) .pin)
     where
-      by : (b : Bool) → due ((tick s) .tcr1) (y .match .time) ≡ b → pin (tick s) j ≡ pick b ((channel (tick s) j) .level) (pinAfterMatch (r .primary) j s (tick s)) → ByMatch j s
+      by : (b : Bool) → isPast ((tick s) .tcr1) (y .match .time) ≡ b → pin (tick s) j ≡ pick b ((channel (tick s) j) .level) (pinAfterMatch (r .primary) j s (tick s)) → ByMatch j s
       by true t q = record { primary = r .primary; reached = reached; level = inr (y .match .happens t, q) }
       by false t q = acted (actsAt ((channel s (r .primary)) .phase) ((tick s) .tcr1)) refl q
 
@@ -115,12 +119,55 @@ pins-only calls s x j l n false t =
     let y : Good s = state-good calls s x in
     ⊎-elim (λ q. absurd (n (ap (λ (z : Part). z .pin) q))) (λ q. inl (by-initialise j s l (y .2) q)) (tick-outcome s (y .0) (y .1) (y .2) j l t)
 
+-- ---- initialise
+
+enabled-is : (j : ℕ) (s : State) → Enabled j s → enabled s j ≡ true
+unfolding enabled Enabled priorityOf cprOf
+enabled-is j s e = rw (ne-eqb _ 0 e)
+
+disabled-is : (j : ℕ) (s : State) → (Enabled j s → ⊥) → enabled s j ≡ false
+unfolding enabled Enabled priorityOf cprOf
+disabled-is j s n = by (eqb (field 2 (reg s (9 + (1 - j / 8))) (2 * (j % 8))) 0) refl
+  where
+    by : (b : Bool) → eqb (field 2 (reg s (9 + (1 - j / 8))) (2 * (j % 8))) 0 ≡ b → not b ≡ false
+    by true t = refl
+    by false t = absurd (n (eqb-false _ 0 t))
+
+settles : (calls : List Call) (s : State) → StateOf calls s → (j : ℕ) → j < 16 → isBound s j ≡ false → Settled j s (tick s)
+settles calls s x j l u = settled j s l (state-good calls s x .0 .sized) (unbound-still j s u) (unreached j s (state-good calls s x .0 .sized) u)
+
+initialise-is : (j : ℕ) (s t : State) → Settled j s t → mayInitialise s j ≡ true → request s j ≡ 2 → enabled s j ≡ true → InitialiseIs j s t
+unfolding part initialisedPart channelControl pinControl mayInitialise status request hsrrOf bitOf
+initialise-is j s t x m p e =
+    let q : part j j t ≡ initialisedPart (part j j s) = x .part-both p e in
+    let v : field 2 (word s j 0) 0 ≡ pick (eqb (field 1 (word s j 1) 15) 1) 1 2 = eqb-true _ _ (and-right (eqb (field 4 (word s j 0) 5) 4) _ m) in
+    record {
+      high = λ b. ap (λ (y : Part). y .pin) q ∙ eq-eqb (field 2 (word s j 0) 0) 1 b;
+      low = λ b. ap (λ (y : Part). y .pin) q ∙ ne-eqb (field 2 (word s j 0) 0) 1 (λ d. omega arith);
+      either = pick-cases (λ k. field 2 (word s j 0) 0 ≡ k → (field 2 (word s j 0) 0 ≡ 1) ⊎ (field 2 (word s j 0) 0 ≡ 2)) (eqb (field 1 (word s j 1) 15) 1) (λ a. inl) (λ a. inr) v;
+      control = ap (λ (y : Part). y .control) q;
+      source = ap (λ (y : Part). y .source) q;
+      set-up = ap (λ (y : Part). y .initialised) q;
+      status = eqb-true (field 1 (reg t 11) j) 1 (x .status-both p e);
+      gone = x .request-both p e;
+    }
+
+untouched-is : (j : ℕ) (s t : State) → Settled j s t → (request s j ≡ 2 → enabled s j ≡ false) → Untouched j s t
+unfolding part channelControl pinControl status
+untouched-is j s t x n =
+    let q : part j j t ≡ part j j s = x .part-not n in
+    record { pin = ap (λ (y : Part). y .pin) q; control = ap (λ (y : Part). y .control) q; source = ap (λ (y : Part). y .source) q; set-up = ap (λ (y : Part). y .initialised) q; status = x .status-not n }
+
 pub always : Always
-unfolding Every channelControl
+unfolding Every channelControl Pending request hsrrOf
 always =
     record {
       shown = λ calls s x p l g. ((state-good calls s x) .1 p l g) .1;
       rests = λ calls s x j l u i. (state-good calls s x) .2 .rests j l u i;
       pins = λ calls s x j l n. pins-only calls s x j l n (isBound s j) refl;
       moves = λ calls s x p l n. moves-only calls s x p l n (stepping s p) refl;
+      questions = λ calls s x c a v g. asked c a v s (state-good calls s x .0) g;
+      initialises = λ calls s x j l p e. let y : (mayInitialise s j ≡ true) × (isBound s j ≡ false) = (state-good calls s x) .2 .asked j l p in initialise-is j s (tick s) (settles calls s x j l (y .1)) (y .0) p (enabled-is j s e);
+      untouched = λ calls s x j l u n. untouched-is j s (tick s) (settles calls s x j l u) (λ p. disabled-is j s (n p));
+      waits = λ calls s x j l p n. let y : (mayInitialise s j ≡ true) × (isBound s j ≡ false) = (state-good calls s x) .2 .asked j l p in (settles calls s x j l (y .1)) .request-off (disabled-is j s n) ∙ p;
     }

@@ -7,27 +7,28 @@ use mathlib.Core.List.{List, [], _∷_, _++_}
 use mathlib.Core.Path.{_≡_, refl, ap, sym, subst, _∙_}
 use mathlib.Core.Logic.{⊎-elim}
 use lib.Dec.{eqb, leb}
-use lib.ListN.{getD, take}
+use lib.ListN.{getD, take, drop}
 use borrow.Author.Tests.{eqb-true, eqb-false, le-leb}
 use Rattle.words.specs.Choice.{pick, ask}
 use Rattle.words.specs.Field.{bitOf}
 use Rattle.words.proofs.ChoiceLaws.{not-both, fails, tests, and-left, and-right}
 use Rattle.motor.specs.Group.{Group, bound, aimed}
 use Rattle.motor.specs.Group as group
-use Rattle.motor.specs.Count.{Target, Other, isTarget, Sight, Moment, Running, NoTarget, Dark, Linked, after, Counted}
-use Rattle.motor.specs.GroupCount.{final}
+use Rattle.motor.specs.Count.{Tick, Target, Other, isTarget, Sight, Moment, Event, UnderWay, UpToArrival, Running, Enabled, NoTarget, Undisturbed, Dark, EndsInTick, Standing, SlowBefore, movesIn, latest, stopOf, stepsOf, steps, ticksOf, ticksIn, Linked, after, Counted, Arrives}
+use Rattle.motor.specs.Track.{distance}
+use Rattle.motor.specs.GroupCount.{next, final}
 use Rattle.motor.specs.GroupCount as group-count
 use Rattle.motor.proofs.Counts.{dark}
 use Rattle.motor.proofs.Arrival.{arrives}
 use Rattle.motor.proofs.Term3.{every-count}
 use Rattle.unit.specs.declared.State.{State}
-use Rattle.unit.specs.TheUnit.{target, resetState, cisr, reg, status, exists, cntl0, cntl1, last, stepping, reaches, isBound}
+use Rattle.unit.specs.TheUnit.{position, target, nextRate, resetState, cisr, reg, status, exists, cntl0, cntl1, last, stepping, reaches, isBound}
 use Rattle.unit.specs.declared.Place.{Place}
 use Rattle.unit.specs.declared.Place.the-variants.{AtWord}
 use Rattle.unit.specs.Gate.{gate, place, isFree, askWord, askPlace, stored}
-use Rattle.unit.specs.Calls.{answeredBy, writeOf, isTaken}
-use Rattle.history.specs.Moments.{Act, Writes, acts, does, through, see, isTargetOf, eventOf, moments}
-use Rattle.history.specs.Term3.{firstPeriod, Freed, Run, atRequest, atStart, atCount, atEnd, momentsGone, momentsNow, Cut, Term3}
+use Rattle.unit.specs.Calls.{Call, answeredBy, writeOf, isTaken}
+use Rattle.history.specs.Moments.{Act, Writes, acts, does, through, Typed, see, isTargetOf, eventOf, moments, SetsGoing}
+use Rattle.history.specs.Term3.{firstPeriod, Freed, Run, atRequest, atStart, atCount, atEnd, momentsGone, momentsNow, Cut, Homed, Term3}
 use Rattle.unit.proofs.Reset.{Sized}
 use Rattle.history.proofs.Look.{look}
 use Rattle.history.proofs.Own.{viewIn, view, groupIn}
@@ -40,7 +41,7 @@ use Rattle.history.proofs.Leaves.{word-leaves, requests-leave}
 use Rattle.history.proofs.Lit.{is-unbound}
 use Rattle.history.proofs.Writes.{dark-keep, status-reg, Aimed, write-target}
 use Rattle.history.proofs.Fine.{Fine, fine-reset}
-use Rattle.history.proofs.Chain.{Ahead, ahead, bound-stepping, seen, target-place, running-held, Chained, chain}
+use Rattle.history.proofs.Chain.{Ahead, ahead, bound-stepping, seen, target-place, running-held, Acts, acts as acts-of, Chained, chain}
 use Rattle.history.proofs.Begin.{Begun, begin, set-going}
 use Rattle.history.proofs.Calls.{through-append, Words, words-acts, words-first, words-second, fine-through}
 use Rattle.history.proofs.WholeSteps.{whole-steps}
@@ -147,7 +148,7 @@ run-dark c s gone b run =
     let x : Chained c s gone = chain c gone s (ahead c s (b .held)) run in
     subst Dark (sym (x .same)) (dark ((view s c) .group) (x .acts) (x .fair))
 
-after-moments : (c : ℕ) (s : State) (xs : List Act) → after (see c s) (moments c s xs) ≡ see c (through s xs)
+pub after-moments : (c : ℕ) (s : State) (xs : List Act) → after (see c s) (moments c s xs) ≡ see c (through s xs)
 unfolding after moments through
 after-moments c s [] = refl
 after-moments c s (x ∷ xs) = after-moments c (does x s) xs
@@ -163,22 +164,75 @@ take-moments zero c s xs = refl
 take-moments (suc k) c s [] = refl
 take-moments (suc k) c s (x ∷ xs) = rw (take-moments k c (does x s) xs)
 
+-- ---- what keeps a motor bound
+
+-- what is no tick leaves it so
+keeps-bound : (c : ℕ) (x : Act) (s : State) → Held c s → (eventOf c x s ≡ Tick → isBound (does x s) c ≡ true) → isBound (does x s) c ≡ true
+unfolding next group-count.eventOf stepping view viewIn groupIn look aimed group.altered
+keeps-bound c x s h ticks = by (y .act) (y .group) (y .event)
+  where
+    y : Acts c s (does x s) (eventOf c x s)
+    y = acts-of c x s h
+
+    same : bound ((view (does x s) c) .group .phase) ≡ true → isBound (does x s) c ≡ true
+    same e = bound-stepping c (does x s) (y .ahead .alone) ∙ e
+
+    up : bound ((view s c) .group .phase) ≡ true
+    up = h .up
+
+    by : (a : group-count.Act) → (view (does x s) c) .group ≡ next a ((view s c) .group) → eventOf c x s ≡ group-count.eventOf a → isBound (does x s) c ≡ true
+    by group-count.Ticks g e = ticks e
+    by (group-count.Aims t) g e = same (ap (λ (z : Group). bound (z .phase)) g ∙ up)
+    by (group-count.Alters a b) g e = same (ap (λ (z : Group). bound (z .phase)) g ∙ up)
+
+-- one moment later: still ahead
+next-ahead : (c : ℕ) (x : Act) (s : State) → Held c s → Ahead c (does x s)
+next-ahead c x s h = (acts-of c x s h) .ahead
+
+under-way : (c : ℕ) (xs : List Act) (s : State) → Ahead c s → isBound s c ≡ true → UnderWay (moments c s xs) → Running (moments c s xs) × (isBound (through s xs) c ≡ true)
+unfolding moments UnderWay Running through see
+under-way c [] s a b u = (tt, b)
+under-way c (x ∷ xs) s a b u =
+    let h : Held c s = running-held c s a b in
+    let k : Running (moments c (does x s) xs) × (isBound (through (does x s) xs) c ≡ true) = under-way c xs (does x s) (next-ahead c x s h) (keeps-bound c x s h (u .0)) (u .1) in
+    ((b, k .0), k .1)
+
+up-to : (c : ℕ) (xs : List Act) (s : State) → Ahead c s → isBound s c ≡ true → UpToArrival (moments c s xs) → Running (moments c s xs)
+unfolding moments UpToArrival Running see
+up-to c [] s a b u = tt
+up-to c (x ∷ []) s a b u = (b, tt)
+up-to c (x ∷ (y ∷ xs)) s a b u =
+    let h : Held c s = running-held c s a b in
+    (b, up-to c (y ∷ xs) (does x s) (next-ahead c x s h) (keeps-bound c x s h (u .0)) (u .1))
+
 -- ---- a cut of a history
 
 started : (r : Run) → Cut r → Fine (atRequest r)
 started r k = fine-through (r .before) resetState (words-first (r .before) _ (subst Words (k .whole) (words-acts (r .calls) (k .listed)))) fine-reset
 
-begun : (r : Run) → Cut r → Begun (r .c) (atStart r)
+pub begun : (r : Run) → Cut r → Begun (r .c) (atStart r)
 begun r k = begin (r .c) (r .a) (r .v) (atRequest r) (started r k) (k .starts)
 
+bound-begun : (c : ℕ) (s : State) → Begun c s → isBound s c ≡ true
+bound-begun c s b = bound-stepping c s (b .held .alone) ∙ b .held .up
+
+gone-by : (r : Run) → Cut r → Running (momentsGone r) × (isBound (atCount r) (r .c) ≡ true)
+gone-by r k = let b : Begun (r .c) (atStart r) = begun r k in under-way (r .c) (r .gone) (atStart r) (ahead (r .c) (atStart r) (b .held)) (bound-begun (r .c) (atStart r) b) (k .under-way)
+
+count-ahead : (r : Run) → Cut r → Ahead (r .c) (atCount r)
+count-ahead r k = (chain (r .c) (r .gone) (atStart r) (ahead (r .c) (atStart r) (begun r k .held)) (gone-by r k .0)) .ahead
+
+pub now-by : (r : Run) → Cut r → UpToArrival (momentsNow r) → Running (momentsNow r)
+now-by r k u = up-to (r .c) (r .now) (atCount r) (count-ahead r k) (gone-by r k .1) u
+
 counts : (r : Run) → Cut r → Running (momentsNow r) → NoTarget (momentsNow r) → Counted (firstPeriod (r .c) (atCount r)) (see (r .c) (atStart r)) (momentsGone r) (momentsNow r)
-counts r k run free = run-counted (r .c) (atStart r) (r .gone) (r .now) (begun r k) (k .running) (k .bound) run free
+counts r k run free = run-counted (r .c) (atStart r) (r .gone) (r .now) (begun r k) (gone-by r k .0) (gone-by r k .1) run free
 
 wholes : (r : Run) → Cut r → Running (momentsNow r) → WholeSteps (r .c) (atCount r) (r .now)
 unfolding through
 wholes r k run =
     let b : Begun (r .c) (atStart r) = begun r k in
-    let x : Chained (r .c) (atStart r) (r .gone) = chain (r .c) (r .gone) (atStart r) (ahead (r .c) (atStart r) (b .held)) (k .running) in
+    let x : Chained (r .c) (atStart r) (r .gone) = chain (r .c) (r .gone) (atStart r) (ahead (r .c) (atStart r) (b .held)) (gone-by r k .0) in
     let w : Words (Writes (r .a) (r .v) ∷ (r .gone ++ (r .now ++ r .rest))) = words-second (r .before) _ (subst Words (k .whole) (words-acts (r .calls) (k .listed))) in
     let f : Fine (atStart r) = fine-through (Writes (r .a) (r .v) ∷ []) (atRequest r) (words-first (Writes (r .a) (r .v) ∷ []) _ w) (started r k) in
     let u : Words (r .gone ++ (r .now ++ r .rest)) = words-second (Writes (r .a) (r .v) ∷ []) _ w in
@@ -186,22 +240,15 @@ wholes r k run =
 
 frees : (r : Run) → Cut r → Running (momentsNow r) → NoTarget (momentsNow r) → isBound (atEnd r) (r .c) ≡ false → Freed (r .c) (atEnd r)
 frees r k run free e =
-    let x : Chained (r .c) (atStart r) (r .gone) = chain (r .c) (r .gone) (atStart r) (ahead (r .c) (atStart r) (begun r k .held)) (k .running) in
+    let x : Chained (r .c) (atStart r) (r .gone) = chain (r .c) (r .gone) (atStart r) (ahead (r .c) (atStart r) (begun r k .held)) (gone-by r k .0) in
     let y : Chained (r .c) (atCount r) (r .now) = chain (r .c) (r .now) (atCount r) (x .ahead) run in
     freed (r .c) (atEnd r) (omega (arith, begun r k .held .seen .within)) (y .ahead) e
 
 darkens : (r : Run) → Cut r → Dark (moments (r .c) (atRequest r) (Writes (r .a) (r .v) ∷ r .gone))
 unfolding moments Dark does see
-darkens r k = (λ b e. write-dark (r .c) (r .a) (r .v) (atRequest r) (started r k .sized) e, run-dark (r .c) (atStart r) (r .gone) (begun r k) (k .running))
+darkens r k = (λ b e. write-dark (r .c) (r .a) (r .v) (atRequest r) (started r k .sized) e, run-dark (r .c) (atStart r) (r .gone) (begun r k) (gone-by r k .0))
 
 -- ---- the counts that document 01 names
-
-running-last : (c : ℕ) (xs : List Act) (x : Act) (s : State) → Running (moments c s (xs ++ (x ∷ []))) → Running (moments c s xs) × ((see c (through s xs)) .bound ≡ true)
-unfolding through moments Running
-running-last c [] x s r = (tt, r .0)
-running-last c (y ∷ xs) x s r =
-    let k : Running (moments c (does y s) xs) × ((see c (through (does y s) xs)) .bound ≡ true) = running-last c xs x (does y s) (r .1) in
-    ((r .0, k .0), k .1)
 
 aimed-target : (c v : ℕ) (s w : State) → Aimed c w s v → target w c ≡ v
 unfolding target view viewIn groupIn look aimed
@@ -219,35 +266,170 @@ taken-target c a v s h e = by (isTargetOf c (place a) && isTaken ((answeredBy (g
         (and-right (isTargetOf c (place a)) _ t)
     by false t q = absurd (not-both refl (ap isTarget (sym q)))
 
-request-counts : (r : Run) → Cut r → r .gone ≡ [] → Running (momentsNow r) → NoTarget (momentsNow r) → Counted (firstPeriod (r .c) (atStart r)) (see (r .c) (atStart r)) [] (moments (r .c) (atStart r) (r .now))
-unfolding through moments
-request-counts r k e run free =
-    subst (λ g. Counted (firstPeriod (r .c) (through (atStart r) g)) (see (r .c) (atStart r)) (moments (r .c) (atStart r) g) (moments (r .c) (through (atStart r) g) (r .now))) e (counts r k run free)
+append-assoc : (xs ys zs : List Act) → (xs ++ ys) ++ zs ≡ xs ++ (ys ++ zs)
+append-assoc [] ys zs = refl
+append-assoc (x ∷ xs) ys zs = ap (λ z. x ∷ z) (append-assoc xs ys zs)
 
-count-target : (r : Run) → Cut r → (earlier : List Act) (a v : ℕ) → r .gone ≡ earlier ++ (Writes a v ∷ []) → eventOf (r .c) (Writes a v) (through (atStart r) earlier) ≡ Target → target (atCount r) (r .c) ≡ v
-unfolding through
-count-target r k earlier a v e q =
-    let b : Begun (r .c) (atStart r) = begun r k in
-    let y : Running (moments (r .c) (atStart r) earlier) × ((see (r .c) (through (atStart r) earlier)) .bound ≡ true) =
-    running-last (r .c) earlier (Writes a v) (atStart r) (subst (λ g. Running (moments (r .c) (atStart r) g)) e (k .running)) in
-    let x : Chained (r .c) (atStart r) earlier = chain (r .c) earlier (atStart r) (ahead (r .c) (atStart r) (b .held)) (y .0) in
-    ap (λ g. target (through (atStart r) g) (r .c)) e ∙ ap (λ s. target s (r .c)) (through-append (atStart r) earlier (Writes a v ∷ []))
-    ∙ taken-target (r .c) a v (through (atStart r) earlier) (running-held (r .c) (through (atStart r) earlier) (x .ahead) (y .1)) q
+module _ (calls : List Call) (before now rest : List Act) (c a v : ℕ) (l : Typed calls) (e : acts calls ≡ before ++ (Writes a v ∷ (now ++ rest)))
+    (g : SetsGoing c a v (through resetState before)) where
+  abbrev going : State
+  going = does (Writes a v) (through resetState before)
+
+  request-cut : Cut record { calls = calls; c = c; a = a; v = v; before = before; gone = []; now = now; rest = rest }
+  unfolding moments UnderWay
+  request-cut = record { listed = l; whole = e; starts = g; under-way = tt }
+
+  request-counts : UpToArrival (moments c going now) → NoTarget (moments c going now) → Counted (firstPeriod c going) (see c going) [] (moments c going now)
+  unfolding moments through
+  request-counts u free = counts _ request-cut (now-by _ request-cut u) free
+
+under-way-last : (c : ℕ) (xs : List Act) (x : Act) (s : State) → UnderWay (moments c s xs) → eventOf c x (through s xs) ≡ Target → UnderWay (moments c s (xs ++ (x ∷ [])))
+unfolding through moments UnderWay isTarget
+under-way-last c [] x s u e = (λ q. absurd (not-both (ap isTarget (sym q ∙ e)) refl), tt)
+under-way-last c (y ∷ xs) x s u e = (u .0, under-way-last c xs x (does y s) (u .1) e)
+
+module _ (calls : List Call) (before gone now rest : List Act) (c a v b x : ℕ) (l : Typed calls)
+    (e : acts calls ≡ before ++ (Writes a v ∷ (gone ++ (Writes b x ∷ (now ++ rest))))) (g : SetsGoing c a v (through resetState before)) where
+  abbrev t : State
+  t = does (Writes a v) (through resetState before)
+
+  abbrev w : State
+  w = does (Writes b x) (through t gone)
+
+  abbrev run-to : Run
+  run-to = record { calls = calls; c = c; a = a; v = v; before = before; gone = gone ++ (Writes b x ∷ []); now = now; rest = rest }
+
+  count-from : through t (gone ++ (Writes b x ∷ [])) ≡ w
+  unfolding through
+  count-from = through-append t gone (Writes b x ∷ [])
+
+  module _ (u : UnderWay (moments c t gone)) (q : eventOf c (Writes b x) (through t gone) ≡ Target) where
+    target-cut : Cut run-to
+    target-cut =
+        record {
+          listed = l;
+          whole = e ∙ ap (λ z. before ++ (Writes a v ∷ z)) (sym (append-assoc gone (Writes b x ∷ []) (now ++ rest)));
+          starts = g;
+          under-way = under-way-last c gone (Writes b x) t u q;
+        }
+
+    target-aims : target w c ≡ x
+    unfolding see
+    target-aims =
+        let k : Begun c t = begun run-to target-cut in
+        let y : Running (moments c t gone) × (isBound (through t gone) c ≡ true) = under-way c gone t (ahead c t (k .held)) (bound-begun c t k) u in
+        let z : Chained c t gone = chain c gone t (ahead c t (k .held)) (y .0) in
+        taken-target c b x (through t gone) (running-held c (through t gone) (z .ahead) (y .1)) q
+
+    target-counts : UpToArrival (moments c w now) → NoTarget (moments c w now)
+        → (target w c ≡ x) × Counted (firstPeriod c w) (see c t) (moments c t (gone ++ (Writes b x ∷ []))) (moments c w now)
+    target-counts =
+        subst (λ y. UpToArrival (moments c y now) → NoTarget (moments c y now) → (target w c ≡ x) × Counted (firstPeriod c y) (see c t) (moments c t (gone ++ (Writes b x ∷ []))) (moments c y now)) count-from
+        (λ n free. (target-aims, counts run-to target-cut (now-by run-to target-cut n) free))
+
+arrivals : (r : Run) → Cut r → Enabled (momentsGone r) → Undisturbed (momentsNow r)
+    → 1 + firstPeriod (r .c) (atCount r) * (steps (see (r .c) (atStart r)) (momentsGone r) + 1) ≤ ticksIn (momentsNow r)
+    → Arrives (see (r .c) (atStart r)) (momentsGone r) (momentsNow r)
+arrivals r k on u enough =
+    arrives (firstPeriod (r .c) (atCount r)) (see (r .c) (atStart r)) (momentsGone r) (momentsNow r)
+    (subst (λ v. Linked v (momentsNow r)) (sym (after-moments (r .c) (atStart r) (r .gone))) (linked (r .c) (atCount r) (r .now)))
+    (λ n run free. let e : take n (momentsNow r) ≡ moments (r .c) (atCount r) (take n (r .now)) = take-moments n (r .c) (atCount r) (r .now) in
+    subst (λ ms. Counted (firstPeriod (r .c) (atCount r)) (see (r .c) (atStart r)) (momentsGone r) ms) (sym e)
+    (run-counted (r .c) (atStart r) (r .gone) (take n (r .now)) (begun r k) (gone-by r k .0) (gone-by r k .1) (subst Running e run) (subst NoTarget e free)))
+    on u enough
+
+-- ---- from the request to the target
+
+record Split (c : ℕ) (s : State) (xs : List Act) (n : ℕ) : Type 0 where
+  first : List Act
+  later : List Act
+  parts : xs ≡ first ++ later
+  ticks : ticksIn (moments c s first) ≡ n
+
+one-at-most : (e : Event) → ticksOf e ≤ 1
+unfolding ticksOf
+one-at-most Tick = omega arith
+one-at-most Target = omega arith
+one-at-most Other = omega arith
+
+-- what happens, up to the n-th tick
+split : (c : ℕ) (xs : List Act) (s : State) (n : ℕ) → n ≤ ticksIn (moments c s xs) → Split c s xs n
+unfolding moments ticksIn
+split c [] s n h = record { first = []; later = []; parts = refl; ticks = omega arith }
+split c (x ∷ xs) s zero h = record { first = []; later = x ∷ xs; parts = refl; ticks = refl }
+split c (x ∷ xs) s (suc n) h =
+    let m : ℕ = suc n - ticksOf (eventOf c x s) in
+    let k : Split c (does x s) xs m = split c xs (does x s) m (omega arith) in
+    record { first = x ∷ k .first; later = k .later; parts = ap (λ z. x ∷ z) (k .parts); ticks = omega (arith, k .ticks, one-at-most (eventOf c x s)) }
+
+take-drop : (n : ℕ) (xs : List Act) → xs ≡ take n xs ++ drop n xs
+take-drop zero xs = refl
+take-drop (suc n) [] = refl
+take-drop (suc n) (x ∷ xs) = ap (λ z. x ∷ z) (take-drop n xs)
+
+ticks-first : (c : ℕ) (s : State) (xs ys : List Act) → ticksIn (moments c s xs) ≤ ticksIn (moments c s (xs ++ ys))
+unfolding moments ticksIn
+ticks-first c s [] ys = omega arith
+ticks-first c s (x ∷ xs) ys = omega (arith, ticks-first c (does x s) xs ys)
+
+calm-first : (c : ℕ) (s : State) (xs ys : List Act) → Enabled (moments c s (xs ++ ys)) → NoTarget (moments c s (xs ++ ys)) → Undisturbed (moments c s xs)
+unfolding moments Enabled NoTarget Undisturbed
+calm-first c s [] ys e n = tt
+calm-first c s (x ∷ xs) ys e n = λ b. (e .0, n .0, calm-first c (does x s) xs ys (e .1) (n .1))
+
+home : (c : ℕ) (t : State) (first later : List Act) → ticksIn (moments c t first) ≤ 1 + firstPeriod c t * (distance (position t c) (target t c) + 1)
+    → Arrives (see c t) [] (moments c t first) → Homed c t (first ++ later)
+unfolding after see
+home c t first later n k =
+    let made : List Act = take (k .made) first in
+    let e : take (k .made) (moments c t first) ≡ moments c t made = take-moments (k .made) c t first in
+    let v : after (see c t) (take (k .made) (moments c t first)) ≡ see c (through t made) = ap (after (see c t)) e ∙ after-moments c t made in
+    let st : Standing (target t c) (see c (through t made)) = subst (Standing (target t c)) v (k .stands) in
+    let d : first ≡ made ++ drop (k .made) first = take-drop (k .made) first in
+    record {
+      first = made;
+      later = drop (k .made) first ++ later;
+      parts = ap (λ z. z ++ later) d ∙ append-assoc made (drop (k .made) first) later;
+      within = let l : ticksIn (moments c t made) ≤ ticksIn (moments c t first) = rw (ap (λ z. ticksIn (moments c t z)) d) (ticks-first c t made (drop (k .made) first)) in omega arith;
+      by-tick = subst EndsInTick e (k .by-tick);
+      unbound = ap (λ (z : Sight). z .bound) (sym v) ∙ k .freed;
+      there = st .there;
+      same = st .same;
+      slowest = st .slowest;
+      lit = st .status;
+    }
+
+homes : (calls : List Call) (before now rest : List Act) (c a v : ℕ)
+    → let s : State = through resetState before in
+    let t : State = does (Writes a v) s in
+    Typed calls → acts calls ≡ before ++ (Writes a v ∷ (now ++ rest)) → SetsGoing c a v s
+    → Enabled (moments c t now) → NoTarget (moments c t now)
+    → 1 + firstPeriod c t * (distance (position t c) (target t c) + 1) ≤ ticksIn (moments c t now)
+    → Homed c t now
+unfolding movesIn latest stepsOf stopOf SlowBefore moments Enabled NoTarget Running after through see UpToArrival
+homes calls before now rest c a v l e g on free enough =
+    let t : State = does (Writes a v) (through resetState before) in
+    let k : Split c t now (1 + firstPeriod c t * (distance (position t c) (target t c) + 1)) = split c now t _ enough in
+    let r : Run = record { calls = calls; c = c; a = a; v = v; before = before; gone = []; now = k .first; rest = k .later ++ rest } in
+    let w : acts calls ≡ before ++ (Writes a v ∷ (k .first ++ (k .later ++ rest))) =
+    e ∙ ap (λ z. before ++ (Writes a v ∷ (z ++ rest))) (k .parts) ∙ ap (λ z. before ++ (Writes a v ∷ z)) (append-assoc (k .first) (k .later) rest) in
+    let slow : nextRate t c ≡ 1 = (request-counts calls before [] (now ++ rest) c a v l e g tt tt) .first-slow in
+    let x : Undisturbed (moments c t (k .first)) = calm-first c t (k .first) (k .later) (subst (λ z. Enabled (moments c t z)) (k .parts) on) (subst (λ z. NoTarget (moments c t z)) (k .parts) free) in
+    subst (Homed c t) (sym (k .parts))
+    (home c t (k .first) (k .later) (omega (arith, k .ticks))
+    (arrivals r (request-cut calls before (k .first) (k .later ++ rest) c a v l w g) tt x (rw slow (omega (arith, k .ticks)))))
 
 pub term-3 : Term3
 term-3 =
     record {
-      counted = counts;
+      begins = λ r k. bound-begun (r .c) (atStart r) (begun r k);
+      goes-on = λ r k. gone-by r k .1;
+      counted = λ r k u. counts r k (now-by r k u);
       from-request = request-counts;
-      from-target = λ r k earlier a v e q run free. (count-target r k earlier a v e q, counts r k run free);
-      whole = wholes;
-      freed = frees;
+      from-target = target-counts;
+      whole = λ r k u. wholes r k (now-by r k u);
+      freed = λ r k u. frees r k (now-by r k u);
       dark = darkens;
-      arrives = λ r k on u enough.
-          arrives (firstPeriod (r .c) (atCount r)) (see (r .c) (atStart r)) (momentsGone r) (momentsNow r)
-          (subst (λ v. Linked v (momentsNow r)) (sym (after-moments (r .c) (atStart r) (r .gone))) (linked (r .c) (atCount r) (r .now)))
-          (λ n run free. let e : take n (momentsNow r) ≡ moments (r .c) (atCount r) (take n (r .now)) = take-moments n (r .c) (atCount r) (r .now) in
-          subst (λ ms. Counted (firstPeriod (r .c) (atCount r)) (see (r .c) (atStart r)) (momentsGone r) ms) (sym e)
-          (run-counted (r .c) (atStart r) (r .gone) (take n (r .now)) (begun r k) (k .running) (k .bound) (subst Running e run) (subst NoTarget e free)))
-          on u enough;
+      arrives = arrivals;
+      comes-home = homes;
     }

@@ -1,15 +1,16 @@
 -- Each tick of a run is one step as document 01 says, in every channel of the group, or leaves them alone.
-use Prim.Native.Nat.{ℕ, _≤_, _<_}
+use Prim.Native.Nat.{ℕ, _+_, _-_, _*_, _≤_, _<_}
 use native.Mathlib.Omega.{arith}
 use native.Mathlib.Nat.{mod-eq-of-lt}
 use mathlib.Core.Bool.{Bool, true, false}
 use mathlib.Core.List.{List, [], _∷_}
 use mathlib.Core.Path.{_≡_, refl, ap, sym, subst, _∙_}
-use mathlib.Core.Logic.{_⊎_, inl, inr, ⊎-elim}
+use mathlib.Core.Logic.{_≢_, _⊎_, inl, inr, ⊎-elim}
 use lib.Dec.{eqb}
 use borrow.Author.Tests.{eq-eqb, ne-eqb}
 use Rattle.words.specs.Choice.{pick}
-use Rattle.words.specs.Clock.{due, later}
+use Rattle.words.proofs.ChoiceLaws.{not-both}
+use Rattle.words.specs.Clock.{since, due, later}
 use Rattle.words.specs.Field.{field, withField, bitOf}
 use Rattle.words.proofs.FieldLaws.{field-set, field-above}
 use Rattle.words.proofs.RotationLaws.{right-bit, left-bit}
@@ -20,19 +21,21 @@ use Rattle.motor.specs.declared.Phase.{Phase}
 use Rattle.motor.specs.declared.Phase.the-variants.{Resting, Requested, Armed, Matched}
 use Rattle.motor.specs.declared.Outcome.{Outcome}
 use Rattle.motor.specs.declared.Outcome.the-variants.{Arrived, Step}
-use Rattle.motor.specs.Stepping.{period, onRequest, onMatch, moved}
+use Rattle.motor.specs.Stepping.{period, ahead, onRequest, onMatch, moved}
 use Rattle.motor.specs.Track.{NextTo, Valid, Serves}
 use Rattle.motor.specs.Group.{Group, armed, happened, SlowAtFirst}
 use Rattle.motor.specs.Group as group
 use Rattle.motor.specs.Count.{Running}
+use Rattle.motor.specs.SlowMoves.{Pace}
+use Rattle.motor.proofs.Decided.{request-decides, match-decides}
 use Rattle.motor.proofs.OneStep.{one-step}
-use Rattle.motor.proofs.OneTick.{happened-requested, tick-clock}
+use Rattle.motor.proofs.OneTick.{happened-requested, period-bounds, tick-clock}
 use Rattle.unit.specs.declared.State.{State}
-use Rattle.unit.specs.TheUnit.{pin, channel, word, channelControl, pinControl, position, target, modCount, nextRate, top, last, cntl0, cntl1, enabled, motorOf}
+use Rattle.unit.specs.TheUnit.{cprOf, pin, channel, word, channelControl, pinControl, position, target, modCount, nextRate, top, last, cntl0, cntl1, enabled, motorOf}
 use Rattle.unit.specs.Stepping.{nextCount, turnedOnce}
 use Rattle.unit.specs.OneTick.{tick}
-use Rattle.history.specs.Moments.{Act, Ticks, Writes, Nothing as nothing, does, moments}
-use Rattle.history.specs.OneStep.{actsAt, pinAfterMatch, CountMoves, BitsTurn, topBit, ChannelSteps, MatchIs, StepIs, ChannelKeeps, StillIs, WholeSteps}
+use Rattle.history.specs.Moments.{Act, Ticks, Writes, Nothing as nothing, does, priorityOf, moments}
+use Rattle.history.specs.OneStep.{isPast, actsAt, unserved, pinAfterMatch, Enabled, placesAhead, Sets, GoesOn, CountMoves, BitsTurn, topBit, ChannelSteps, MatchIs, StepIs, ChannelKeeps, StillIs, WholeSteps}
 use Rattle.unit.proofs.Access.{mod-small}
 use Rattle.history.proofs.Look.{look}
 use Rattle.history.proofs.Own.{View, viewIn, groupIn, view}
@@ -77,7 +80,7 @@ module _ (c : ℕ) (s t : State) (f : Fine s) (w : Way) (k : ℕ) (acted already
   unfolding part outcomePart showPart modCount
   counted e = ap (λ (q : Part). field 4 (q .fourth) 8) e ∙ count-stands (word s c 4) (nextCount w (field 4 (word s c 4) 8)) k (count-small w (field 4 (word s c 4) 8))
 
-  channel-steps : (j x : ℕ) → modCount t c ≡ nextCount w (modCount s c) → due (t .tcr1) x ≡ already → actsAt ((channel s c) .phase) (t .tcr1) ≡ acted
+  channel-steps : (j x : ℕ) → modCount t c ≡ nextCount w (modCount s c) → isPast (t .tcr1) x ≡ already → actsAt ((channel s c) .phase) (t .tcr1) ≡ acted
       → part c j t ≡ outcomePart already (Step w k) (showPart acted (part c j s)) → ChannelSteps w x c j s t
   unfolding part outcomePart showPart channelControl pinControl modCount pinAfterMatch
   channel-steps j x m p q e =
@@ -91,10 +94,23 @@ module _ (c : ℕ) (s t : State) (f : Fine s) (w : Way) (k : ℕ) (acted already
 
 -- ---- a tick of a held primary
 
--- where a step comes from
-abbrev From : ℕ → State → State → ℕ → Outcome → Type 0
-From c s t reference o =
-    (((channel s c) .phase ≡ Requested) × (reference ≡ t .tcr1) × (onRequest (motorOf s c) ≡ o)) ⊎ ((happened (t .tcr1) ((channel s c) .phase) ≡ Matched reference) × (onMatch (motorOf s c) ≡ o))
+-- where a step comes from, and at which next rate it leaves the motor
+record From (c : ℕ) (s t : State) (reference : ℕ) (w : Way) (k : ℕ) : Type 0 where
+  from : (((channel s c) .phase ≡ Requested) × (reference ≡ t .tcr1) × Sets w c s) ⊎ ((unserved ((channel s c) .phase) (t .tcr1) ≡ Matched reference) × GoesOn w c s)
+  pace : Pace (top s c) (placesAhead w c s) (nextRate s c) k
+
+ahead-is : (w : Way) (c : ℕ) (s : State) → ahead w (motorOf s c) ≡ placesAhead w c s
+unfolding ahead placesAhead motorOf
+ahead-is Right c s = refl
+ahead-is Left c s = refl
+
+-- the phase after the matches, in this crate's own words and in crate motor's
+unserved-is : (p : Phase) (now : ℕ) → happened now p ≡ unserved p now
+unfolding happened armed unserved isPast due since
+unserved-is Resting now = refl
+unserved-is Requested now = refl
+unserved-is (Armed time) now = refl
+unserved-is (Matched captured) now = refl
 
 module _ (c : ℕ) (s : State) (h : Held c s) (f : Fine s) where
   abbrev t : State
@@ -125,7 +141,7 @@ module _ (c : ℕ) (s : State) (h : Held c s) (f : Fine s) where
   unfolding part showPart channelControl pinControl pinAfterMatch
   keeps j e = record { pin = ap (λ (q : Part). q .pin) e ∙ ap (λ b. pick b ((channel s j) .level) (pin s j)) (sym acted-then); control = ap (λ (q : Part). q .control) e; source = ap (λ (q : Part). q .source) e; level = ap (λ (q : Part). q .level) e }
 
-  still : (x : Group) → (view t c) .group ≡ x → x .motor ≡ g .motor → (x .phase ≡ happened (later (s .tcr1) 1) ((channel s c) .phase)) ⊎ ((x .phase ≡ Resting) × (position s c ≡ target s c))
+  still : (x : Group) → (view t c) .group ≡ x → x .motor ≡ g .motor → (x .phase ≡ happened (later (s .tcr1) 1) ((channel s c) .phase)) ⊎ ((x .phase ≡ Resting) × (position s c ≡ target s c) × Enabled c s)
       → ((j : ℕ) → c ≤ j → j ≤ last s c → part c j t ≡ showPart acted (part c j s)) → Ticked
   unfolding view viewIn groupIn look position target part showPart
   still x e m p parts =
@@ -137,7 +153,7 @@ module _ (c : ℕ) (s : State) (h : Held c s) (f : Fine s) where
         rates = ap (λ (y : Part). y .fourth) (parts c (omega arith) (h .alone .spans));
         aim = ap (λ (y : Motor). y .target) q;
         span = fades-tick s (h .sized) .spans c;
-        phase = ⊎-elim (λ y. inl (ap (λ (z : Group). z .phase) e ∙ y ∙ ap (λ z. happened z ((channel s c) .phase)) (sym time))) (λ y. inr (ap (λ (z : Group). z .phase) e ∙ y .0, y .1)) p;
+        phase = ⊎-elim (λ y. inl (ap (λ (z : Group). z .phase) e ∙ y ∙ ap (λ z. happened z ((channel s c) .phase)) (sym time) ∙ unserved-is ((channel s c) .phase) (t .tcr1))) (λ y. inr (ap (λ (z : Group). z .phase) e ∙ y .0, y .1, y .2)) p;
         channels = λ j a b. keeps j (parts j a b);
       }
 
@@ -146,34 +162,41 @@ module _ (c : ℕ) (s : State) (h : Held c s) (f : Fine s) where
   unfolding view viewIn groupIn look group.clocked
   idle e parts = still (group.clocked g) e refl (inl refl) parts
 
+  -- P of the present rate is at least 1
+  some-period : cntl0 s c * (1 + nextRate s c) < cntl1 s c
+  unfolding view viewIn groupIn look cntl0 cntl1 nextRate top motorOf period
+  some-period =
+      let b : 1 ≤ cntl1 s c - cntl0 s c * (1 + nextRate s c) = (period-bounds (cntl0 s c) (cntl1 s c) (nextRate s c) (top s c) (h .seen .sound .valid .least) (h .seen .sound .valid .most) (h .seen .sound .shortest)) .0 in
+      omega arith
+
   match-is : (reference : ℕ) (w : Way) (k : ℕ) → (view t c) .group ≡ group.outcome (group.clocked g) reference (Step w k) → MatchIs c reference s t
-  unfolding view viewIn groupIn look group.clocked group.outcome cntl0 cntl1 nextRate armed later
+  unfolding view viewIn groupIn look group.clocked group.outcome cntl0 cntl1 nextRate armed later period isPast due since
   match-is reference w k e =
       let x : ℕ = later reference (period (cntl0 s c) (cntl1 s c) (nextRate s c)) in
       let p : (channel t c) .phase ≡ armed (t .tcr1) x = ap (λ (y : Group). y .phase) e ∙ ap (λ y. armed y x) (sym time) in
-      record { time = x; sum = refl; set = λ q. p ∙ rw q refl; happens = λ q. p ∙ rw q refl }
+      record { time = x; some = some-period; sum = refl; set = λ q. p ∙ rw q refl; happens = λ q. p ∙ rw q refl }
 
-  step-by : (reference : ℕ) (o : Outcome) → From c s t reference o → (view t c) .group ≡ group.outcome (group.clocked g) reference o
+  step-by : Enabled c s → (reference : ℕ) (o : Outcome) → ((w : Way) (k : ℕ) → o ≡ Step w k → From c s t reference w k) → (view t c) .group ≡ group.outcome (group.clocked g) reference o
       → ((j : ℕ) → c ≤ j → j ≤ last s c → part c j t ≡ outcomePart (dueAtOnce (group.clocked g) reference) o (showPart acted (part c j s))) → Serves (motorOf s c) o → Ticked
-  unfolding Serves group.outcome group.clocked view viewIn groupIn look moved motorOf position target nextRate top outcomePart dueAtOnce match-is cntl0 cntl1
-  step-by reference Arrived fr e parts d = still (group.outcome (group.clocked g) reference Arrived) e refl (inr (refl, d .reached)) parts
-  step-by reference (Step w k) fr e parts d =
+  unfolding Serves group.outcome group.clocked view viewIn groupIn look moved motorOf position target nextRate top outcomePart dueAtOnce match-is cntl0 cntl1 isPast due since
+  step-by on reference Arrived fr e parts d = still (group.outcome (group.clocked g) reference Arrived) e refl (inr (refl, d .reached, on)) parts
+  step-by on reference (Step w k) fr e parts d =
       let x : ℕ = later reference (period (cntl0 s c) (cntl1 s c) (nextRate s c)) in
       let m : modCount t c ≡ nextCount w (modCount s c) = counted c s t f w k acted (dueAtOnce (group.clocked g) reference) (parts c (omega arith) (h .alone .spans)) in
       inl
       record {
+        on = on;
         way = w;
-        next = k;
         reference = reference;
-        from = fr;
+        from = (fr w k refl) .from;
         place = subst (NextTo w (position s c)) (sym (ap (λ (x : Group). x .motor .position) e)) (d .next);
         faces = ap (λ (x : Group). x .motor .way) e;
-        rate = ap (λ (x : Group). x .motor .rate) e;
+        rate = subst (Pace (top s c) (placesAhead w c s) (nextRate s c)) (sym (ap (λ (x : Group). x .motor .rate) e)) ((fr w k refl) .pace);
         count = subst (CountMoves w (modCount s c)) (sym m) (count-moves w (modCount s c) (mod-small s c));
         aim = ap (λ (x : Group). x .motor .target) e;
         span = fades-tick s (h .sized) .spans c;
         match = match-is reference w k e;
-        channels = λ j a b. channel-steps c s t f w k acted (dueAtOnce (group.clocked g) reference) j x m (ap (λ y. due y x) time) acted-then (parts j a b);
+        channels = λ j a b. channel-steps c s t f w k acted (dueAtOnce (group.clocked g) reference) j x m (ap (λ y. isPast y x) time) acted-then (parts j a b);
       }
 
   valid : Valid (motorOf s c)
@@ -184,17 +207,35 @@ module _ (c : ℕ) (s : State) (h : Held c s) (f : Fine s) where
   unfolding view viewIn groupIn look motorOf nextRate SlowAtFirst
   slow r = subst (λ p. SlowAtFirst p (nextRate s c)) r (h .seen .sound .slow)
 
+  by-request : (w : Way) (k : ℕ) → (channel s c) .phase ≡ Requested → onRequest (motorOf s c) ≡ Step w k → From c s t (later (s .tcr1) 1) w k
+  unfolding Sets motorOf
+  by-request w k r e =
+      let d = request-decides w (motorOf s c) k (valid .least) e in
+      record { from = inl (r, sym time, subst (λ n. 1 ≤ n) (ahead-is w c s) (d .0)); pace = subst (λ n. Pace (top s c) n (nextRate s c) k) (ahead-is w c s) (d .1) }
+
+  by-match : (x : ℕ) (w : Way) (k : ℕ) → happened (later (s .tcr1) 1) ((channel s c) .phase) ≡ Matched x → onMatch (motorOf s c) ≡ Step w k → From c s t x w k
+  unfolding GoesOn motorOf
+  by-match x w k q e =
+      let d = match-decides w (motorOf s c) k (valid .least) e in
+      record {
+        from = inr (sym (unserved-is ((channel s c) .phase) (t .tcr1)) ∙ ap (λ y. happened y ((channel s c) .phase)) time ∙ q, subst Continued (ahead-is w c s) (d .0));
+        pace = subst (λ n. Pace (top s c) n (nextRate s c) k) (ahead-is w c s) (d .1);
+      }
+    where
+      Continued : ℕ → Type 0
+      Continued n = (((channel s c) .way ≡ w) × ((1 ≤ n) ⊎ (2 ≤ nextRate s c))) ⊎ (((channel s c) .way ≢ w) × (nextRate s c ≡ 1) × (1 ≤ n))
+
   -- by what is pending after the matches
-  step-phase : (p : Phase) → happened (later (s .tcr1) 1) ((channel s c) .phase) ≡ p → (view t c) .group ≡ group.serve p (group.clocked g)
+  step-phase : Enabled c s → (p : Phase) → happened (later (s .tcr1) 1) ((channel s c) .phase) ≡ p → (view t c) .group ≡ group.serve p (group.clocked g)
       → ((j : ℕ) → c ≤ j → j ≤ last s c → part c j t ≡ phasePart p (group.clocked g) (showPart acted (part c j s))) → Ticked
   unfolding group.serve phasePart group.clocked view viewIn groupIn look motorOf position target nextRate top
-  step-phase Resting q e parts = idle e parts
-  step-phase Requested q e parts =
+  step-phase on Resting q e parts = idle e parts
+  step-phase on Requested q e parts =
       let r : (channel s c) .phase ≡ Requested = happened-requested _ ((channel s c) .phase) q in
-      step-by (later (s .tcr1) 1) (onRequest (motorOf s c)) (inl (r, sym time, refl)) e parts (one-step .on-request (motorOf s c) valid (slow r))
-  step-phase (Armed x) q e parts = idle e parts
-  step-phase (Matched x) q e parts =
-      step-by x (onMatch (motorOf s c)) (inr (ap (λ y. happened y ((channel s c) .phase)) time ∙ q, refl)) e parts (one-step .on-match (motorOf s c) valid)
+      step-by on (later (s .tcr1) 1) (onRequest (motorOf s c)) (λ w k o. by-request w k r o) e parts (one-step .on-request (motorOf s c) valid (slow r))
+  step-phase on (Armed x) q e parts = idle e parts
+  step-phase on (Matched x) q e parts =
+      step-by on x (onMatch (motorOf s c)) (λ w k o. by-match x w k q o) e parts (one-step .on-match (motorOf s c) valid)
 
   -- the part of each channel, by the view after the matches
   pub parts-turned : (j : ℕ) → c ≤ j → j ≤ last s c
@@ -204,14 +245,18 @@ module _ (c : ℕ) (s : State) (h : Held c s) (f : Fine s) where
       part-tick c j s h a b
       ∙ ap (λ (v : View). pick (v .group .enabled) (phasePart (v .group .phase) (v .group) (showPart acted (part c j s))) (showPart acted (part c j s))) (view-matches c s (h .sized) (h .seen))
 
+  on-enabled : enabled s c ≡ true → Enabled c s
+  unfolding enabled Enabled priorityOf cprOf
+  on-enabled z e = not-both z (rw e)
+
   pub tick-is : Ticked
   unfolding group.tick group.clocked view viewIn groupIn look
-  tick-is = by (enabled s c) ticked parts-turned
+  tick-is = by (enabled s c) refl ticked parts-turned
     where
-      by : (b : Bool) → (view t c) .group ≡ pick b (group.serve (happened (later (s .tcr1) 1) ((channel s c) .phase)) (group.clocked g)) (group.clocked g)
+      by : (b : Bool) → enabled s c ≡ b → (view t c) .group ≡ pick b (group.serve (happened (later (s .tcr1) 1) ((channel s c) .phase)) (group.clocked g)) (group.clocked g)
           → ((j : ℕ) → c ≤ j → j ≤ last s c → part c j t ≡ pick b (phasePart (happened (later (s .tcr1) 1) ((channel s c) .phase)) (group.clocked g) (showPart acted (part c j s))) (showPart acted (part c j s))) → Ticked
-      by true e k = step-phase (happened (later (s .tcr1) 1) ((channel s c) .phase)) refl e k
-      by false e k = idle e k
+      by true z e k = step-phase (on-enabled z) (happened (later (s .tcr1) 1) ((channel s c) .phase)) refl e k
+      by false z e k = idle e k
 
 pub whole-steps : (c : ℕ) (xs : List Act) (s : State) → Ahead c s → Fine s → Words xs → Running (moments c s xs) → WholeSteps c s xs
 unfolding moments Running WholeSteps Words does

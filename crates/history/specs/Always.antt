@@ -4,16 +4,17 @@ use mathlib.Core.Bool.{true, false}
 use mathlib.Core.List.{List, _++_}
 use mathlib.Core.Logic.{_≢_, _⊎_}
 use mathlib.Core.Path.{_≡_}
-use Rattle.words.specs.Field.{bitOf}
+use Rattle.words.specs.Field.{field, bitOf}
 use Rattle.words.specs.Rotation.{rotatedRight}
 use Rattle.motor.specs.declared.Phase.the-variants.{Matched}
 use Rattle.unit.specs.declared.State.{State}
-use Rattle.unit.specs.TheUnit.{resetState, pin, request, reaches, isBound, function, channel, word, channelControl, pinControl, position, modCount, last, stepping}
-use Rattle.history.specs.OneStep.{actsAt}
+use Rattle.unit.specs.TheUnit.{resetState, reg, pin, request, reaches, isBound, function, channel, word, channelControl, pinControl, position, modCount, last, stepping}
+use Rattle.history.specs.OneStep.{Enabled, actsAt}
 use Rattle.unit.specs.OneTick.{tick}
 use Rattle.unit.specs.Gate.{otherwiseZero, spanGood}
 use Rattle.unit.specs.Calls.{Call}
-use Rattle.history.specs.Moments.{Act, acts, through, Typed}
+use Rattle.unit.specs.Takes.{pending, MayStep}
+use Rattle.history.specs.Moments.{Act, acts, through, Typed, SetsGoing}
 
 -- a channel of a group whose MOD_CNT is m: of function 13, initialised, its CHANNEL_CONTROL its PIN_CONTROL turned right by m
 pub record ChannelShown (m j : ℕ) (s : State) : Type 0 where
@@ -53,6 +54,30 @@ pub record ByMatch (j : ℕ) (s : State) : Type 0 where
   pub level : ((actsAt ((channel s primary) .phase) ((tick s) .tcr1) ≡ true) × (pin (tick s) j ≡ (channel s j) .level))
       ⊎ (((channel (tick s) primary) .phase ≡ Matched ((tick s) .tcr1)) × (pin (tick s) j ≡ (channel (tick s) j) .level))
 
+-- Document 01, Initialise, in a tick from s to t: the pin as bits 1 to 0 say, CHANNEL_CONTROL becomes PIN_CONTROL, the channel is
+-- initialised, its status bit is set, and nothing is pending any more
+pub record InitialiseIs (j : ℕ) (s t : State) : Type 0 where
+  pub high : field 2 (channelControl s j) 0 ≡ 1 → pin t j ≡ true
+  pub low : field 2 (channelControl s j) 0 ≡ 2 → pin t j ≡ false
+  pub either : (field 2 (channelControl s j) 0 ≡ 1) ⊎ (field 2 (channelControl s j) 0 ≡ 2)
+  pub control : channelControl t j ≡ pinControl s j
+  pub source : pinControl t j ≡ pinControl s j
+  pub set-up : (channel t j) .initialised ≡ true
+  pub status : field 1 (reg t 11) j ≡ 1
+  pub gone : pending j t ≡ 0
+
+-- and nothing of that
+pub record Untouched (j : ℕ) (s t : State) : Type 0 where
+  pub pin : pin t j ≡ pin s j
+  pub control : channelControl t j ≡ channelControl s j
+  pub source : pinControl t j ≡ pinControl s j
+  pub set-up : (channel t j) .initialised ≡ (channel s j) .initialised
+  pub status : bitOf (reg t 11) j ≡ bitOf (reg s 11) j
+
+-- an initialise, 10, is pending in HSRR
+unfoldable pub Pending : ℕ → State → Type 0
+Pending j s = pending j s ≡ 2
+
 -- what is claimed of every list of calls that is `Listed`
 pub record AlwaysOf (Listed : List Call → Type 0) : Type 0 where
   -- a bound group is set up and shows its pattern
@@ -63,6 +88,13 @@ pub record AlwaysOf (Listed : List Call → Type 0) : Type 0 where
   pub pins : (calls : List Call) (s : State) → StateIn Listed calls s → (j : ℕ) → j < 16 → pin (tick s) j ≢ pin s j → ByInitialise j s ⊎ ByMatch j s
   -- a position changes in a tick only while its group is under way, so only while each of its channels is set up
   pub moves : (calls : List Call) (s : State) → StateIn Listed calls s → (p : ℕ) → p < 16 → position (tick s) p ≢ position s p → (stepping s p ≡ true) × GroupShown p s
+  -- where a write sets a resting motor going, whatever else its word asks for, the state before it has the numbers of questions 2 to 9
+  pub questions : (calls : List Call) (s : State) → StateIn Listed calls s → (c a v : ℕ) → SetsGoing c a v s → MayStep c s
+  -- an initialise is done in the next tick in which its channel has a priority
+  pub initialises : (calls : List Call) (s : State) → StateIn Listed calls s → (j : ℕ) → j < 16 → Pending j s → Enabled j s → InitialiseIs j s (tick s)
+  -- a channel that is not bound, with no initialise pending or the priority 00, is left; and what is pending at 00 stays
+  pub untouched : (calls : List Call) (s : State) → StateIn Listed calls s → (j : ℕ) → j < 16 → isBound s j ≡ false → (Pending j s → Enabled j s → ⊥) → Untouched j s (tick s)
+  pub waits : (calls : List Call) (s : State) → StateIn Listed calls s → (j : ℕ) → j < 16 → Pending j s → (Enabled j s → ⊥) → Pending j (tick s)
 
 -- of every list of calls whose written values are words
 abbrev pub Always : Type 0

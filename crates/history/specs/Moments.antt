@@ -1,6 +1,6 @@
 -- What a list of calls does, moment by moment, and what is seen of a primary in it. Document 01, "The words of term 3".
-use Prim.Native.Nat.{ℕ, _*_, _%_, _≤_}
-use mathlib.Core.Bool.{Bool, true, false, _&&_}
+use Prim.Native.Nat.{ℕ, _+_, _-_, _*_, _/_, _%_, _≤_}
+use mathlib.Core.Bool.{Bool, true, false, not, _&&_}
 use mathlib.Core.List.{List, [], _∷_, _++_}
 use mathlib.Core.Path.{_≡_}
 use lib.Dec.{ltb, eqb}
@@ -9,7 +9,7 @@ use Rattle.words.specs.Choice.{pick}
 use Rattle.words.specs.Field.{field}
 use Rattle.motor.specs.Count.{Sight, Event, Tick, Target, Other, Moment}
 use Rattle.unit.specs.declared.State.{State}
-use Rattle.unit.specs.TheUnit.{hsrrOf, enabled, status, position, target, nextRate, isBound}
+use Rattle.unit.specs.TheUnit.{hsrrOf, reg, status, position, target, nextRate, isBound}
 use Rattle.unit.specs.OneTick.{tick}
 use Rattle.unit.specs.declared.Place.{Place}
 use Rattle.unit.specs.declared.Place.the-variants.{AtRegister, AtWord, Nowhere}
@@ -49,9 +49,13 @@ Typed (Advance n lent ∷ xs) = Typed xs
 
 -- ---- what is seen of a primary
 
+-- the priority of c: its two bits of CPR0, register 9, for channels 15 to 8, else of CPR1, register 10
+unfoldable pub priorityOf : ℕ → State → ℕ
+priorityOf c s = field 2 (reg s (9 + (1 - c / 8))) (2 * (c % 8))
+
 unfoldable pub see : ℕ → State → Sight
 see c s =
-    record { position = position s c; rate = nextRate s c; target = target s c; bound = isBound s c; status = status s c; enabled = enabled s c }
+    record { position = position s c; rate = nextRate s c; target = target s c; bound = isBound s c; status = status s c; enabled = not (eqb (priorityOf c s) 0) }
 
 -- the place is DESIRED_POSITION of the channel c
 unfoldable pub isTargetOf : ℕ → Place → Bool

@@ -5,10 +5,11 @@ use mathlib.Core.List.{List, [], _∷_, _++_}
 use mathlib.Core.Path.{_≡_}
 use lib.ListN.{replicate}
 use Rattle.motor.specs.Stepping.{period}
-use Rattle.motor.specs.Count.{Target, Moment, Running, Enabled, NoTarget, Undisturbed, Dark, ticksIn, after, steps, Counted, Arrives}
+use Rattle.motor.specs.Track.{distance}
+use Rattle.motor.specs.Count.{Target, Moment, UnderWay, UpToArrival, Enabled, NoTarget, Undisturbed, Dark, EndsInTick, ticksIn, steps, Counted, Arrives}
 use Rattle.unit.specs.declared.State.{State}
 use Rattle.unit.specs.declared.Answer.the-variants.{Refused}
-use Rattle.unit.specs.TheUnit.{resetState, target, cntl0, cntl1, last, isBound}
+use Rattle.unit.specs.TheUnit.{resetState, position, target, nextRate, status, cntl0, cntl1, last, isBound}
 use Rattle.unit.specs.Gate.{advanceGood}
 use Rattle.unit.specs.Calls.{writeOf, advanceOf, lentAfter, Call, Read, run, isTaken}
 use Rattle.unit.specs.Calls as calls
@@ -37,6 +38,20 @@ firstPeriod c s = period (cntl0 s c) (cntl1 s c) 1
 pub record Freed (c : ℕ) (s : State) : Type 0 where
   pub unbound : (j : ℕ) → c ≤ j → j ≤ last s c → isBound s j ≡ false
   pub writable : (v : ℕ) → isTaken ((writeOf s (0xf04 + 16 * c) v) .answer) ≡ true
+
+-- what happens from t on begins with `first`, of at most so many ticks, the last of which leaves the motor c unbound, at the target
+-- that it had at t, at next rate 1, with its status bit set
+pub record Homed (c : ℕ) (t : State) (now : List Act) : Type 0 where
+  pub first : List Act
+  pub later : List Act
+  pub parts : now ≡ first ++ later
+  pub within : ticksIn (moments c t first) ≤ 1 + firstPeriod c t * (distance (position t c) (target t c) + 1)
+  pub by-tick : EndsInTick (moments c t first)
+  pub unbound : isBound (through t first) c ≡ false
+  pub there : position (through t first) c ≡ target t c
+  pub same : target (through t first) c ≡ target t c
+  pub slowest : nextRate (through t first) c ≡ 1
+  pub lit : status (through t first) c ≡ true
 
 -- For every list of calls from reset, every primary c and every cut of what happens in it into what came `before`, a write that
 -- sets the resting motor going, what has `gone` of its run, what is `now` counted, and the `rest`.
@@ -68,14 +83,13 @@ momentsGone r = moments (r .c) (atStart r) (r .gone)
 abbrev pub momentsNow : Run → List Moment
 momentsNow r = moments (r .c) (atCount r) (r .now)
 
--- `Listed` says which lists of calls are meant. The cut is one of such a list, the request sets the motor going, and the motor has
--- not arrived before the count begins.
+-- `Listed` says which lists of calls are meant. The cut is one of such a list, the request sets the motor going, and no tick before
+-- the count begins is its arrival. That the request binds the motor is no premise: it is claimed, `begins`.
 pub record CutOf (Listed : List Call → Type 0) (r : Run) : Type 0 where
   pub listed : Listed (r .calls)
   pub whole : acts (r .calls) ≡ r .before ++ (Writes (r .a) (r .v) ∷ (r .gone ++ (r .now ++ r .rest)))
   pub starts : SetsGoing (r .c) (r .a) (r .v) (atRequest r)
-  pub running : Running (momentsGone r)
-  pub bound : isBound (atCount r) (r .c) ≡ true
+  pub under-way : UnderWay (momentsGone r)
 
 -- of any list of calls whose written values are words
 abbrev pub Cut : Run → Type 0
@@ -83,25 +97,46 @@ Cut = CutOf Typed
 
 -- what is claimed of every list of calls that is `Listed`
 pub record Term3Of (Listed : List Call → Type 0) : Type 0 where
+  -- a taken request of a resting motor binds it, and it stays bound until a tick: targets, other calls and refused ones leave it so
+  pub begins : (r : Run) → CutOf Listed r → isBound (atStart r) (r .c) ≡ true
+  pub goes-on : (r : Run) → CutOf Listed r → isBound (atCount r) (r .c) ≡ true
   -- up to the arrival or the next target taken
-  pub counted : (r : Run) → CutOf Listed r → Running (momentsNow r) → NoTarget (momentsNow r)
+  pub counted : (r : Run) → CutOf Listed r → UpToArrival (momentsNow r) → NoTarget (momentsNow r)
       → Counted (firstPeriod (r .c) (atCount r)) (see (r .c) (atStart r)) (momentsGone r) (momentsNow r)
   -- document 01 counts from the request, and from a target taken; its target is then the word that was written
-  pub from-request : (r : Run) → CutOf Listed r → r .gone ≡ [] → Running (momentsNow r) → NoTarget (momentsNow r)
-      → Counted (firstPeriod (r .c) (atStart r)) (see (r .c) (atStart r)) [] (moments (r .c) (atStart r) (r .now))
-  pub from-target : (r : Run) → CutOf Listed r → (earlier : List Act) (a v : ℕ) → r .gone ≡ earlier ++ (Writes a v ∷ []) → eventOf (r .c) (Writes a v) (through (atStart r) earlier) ≡ Target
-      → Running (momentsNow r) → NoTarget (momentsNow r)
-      → (target (atCount r) (r .c) ≡ v) × Counted (firstPeriod (r .c) (atCount r)) (see (r .c) (atStart r)) (momentsGone r) (momentsNow r)
+  pub from-request : (calls : List Call) (before now rest : List Act) (c a v : ℕ)
+      → let s : State = through resetState before in
+      let t : State = does (Writes a v) s in
+      Listed calls → acts calls ≡ before ++ (Writes a v ∷ (now ++ rest)) → SetsGoing c a v s
+      → UpToArrival (moments c t now) → NoTarget (moments c t now)
+      → Counted (firstPeriod c t) (see c t) [] (moments c t now)
+  pub from-target : (calls : List Call) (before gone now rest : List Act) (c a v b x : ℕ)
+      → let s : State = through resetState before in
+      let t : State = does (Writes a v) s in
+      let u : State = through t gone in
+      let w : State = does (Writes b x) u in
+      Listed calls → acts calls ≡ before ++ (Writes a v ∷ (gone ++ (Writes b x ∷ (now ++ rest)))) → SetsGoing c a v s
+      → UnderWay (moments c t gone) → eventOf c (Writes b x) u ≡ Target
+      → UpToArrival (moments c w now) → NoTarget (moments c w now)
+      → (target w c ≡ x) × Counted (firstPeriod c w) (see c t) (moments c t (gone ++ (Writes b x ∷ []))) (moments c w now)
   -- each tick is one step as under Stepping, or none
-  pub whole : (r : Run) → CutOf Listed r → Running (momentsNow r) → WholeSteps (r .c) (atCount r) (r .now)
+  pub whole : (r : Run) → CutOf Listed r → UpToArrival (momentsNow r) → WholeSteps (r .c) (atCount r) (r .now)
   -- at the arrival
-  pub freed : (r : Run) → CutOf Listed r → Running (momentsNow r) → NoTarget (momentsNow r) → isBound (atEnd r) (r .c) ≡ false → Freed (r .c) (atEnd r)
+  pub freed : (r : Run) → CutOf Listed r → UpToArrival (momentsNow r) → NoTarget (momentsNow r) → isBound (atEnd r) (r .c) ≡ false → Freed (r .c) (atEnd r)
   -- nothing of the run before the count sets the status bit, the request included
   pub dark : (r : Run) → CutOf Listed r → Dark (moments (r .c) (atRequest r) (Writes (r .a) (r .v) ∷ r .gone))
   -- with the priority never 00 from the request on and no target taken, so many ticks bring it to its target
   pub arrives : (r : Run) → CutOf Listed r → Enabled (momentsGone r) → Undisturbed (momentsNow r)
-      → 1 + firstPeriod (r .c) (atCount r) * (steps (firstPeriod (r .c) (atCount r)) (see (r .c) (atStart r)) (momentsGone r) (momentsNow r) + 1) ≤ ticksIn (momentsNow r)
-      → Arrives (firstPeriod (r .c) (atCount r)) (see (r .c) (atStart r)) (momentsGone r) (momentsNow r)
+      → 1 + firstPeriod (r .c) (atCount r) * (steps (see (r .c) (atStart r)) (momentsGone r) + 1) ≤ ticksIn (momentsNow r)
+      → Arrives (see (r .c) (atStart r)) (momentsGone r) (momentsNow r)
+  -- in document 01's words, from the request: steps is then the way to the target
+  pub comes-home : (calls : List Call) (before now rest : List Act) (c a v : ℕ)
+      → let s : State = through resetState before in
+      let t : State = does (Writes a v) s in
+      Listed calls → acts calls ≡ before ++ (Writes a v ∷ (now ++ rest)) → SetsGoing c a v s
+      → Enabled (moments c t now) → NoTarget (moments c t now)
+      → 1 + firstPeriod c t * (distance (position t c) (target t c) + 1) ≤ ticksIn (moments c t now)
+      → Homed c t now
 
 -- term 3: of every list of calls whose written values are words
 abbrev pub Term3 : Type 0

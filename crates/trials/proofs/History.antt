@@ -9,7 +9,7 @@ use Rattle.unit.specs.Stepping.{pinOut, pinsOut, nextCount, turnedOnce, prepare
 use Rattle.unit.specs.OneTick.{matchOf, matched, initialise, stepRequest, requestServed, matchServed, served, clocked, tick, afterTicks}
 use Rattle.unit.specs.Gate.{place, isPlace, inList, isFree, isStepper, mayInitialise, otherwiseZero, spanGood, isReady, groupReady, showsPattern, patternGood, rampGood, targetGood, advanceGood, requested, askInitialise, askStep, askChannel, andThen, askChannels, verdictOf, keepsOrFree, askRegister, askWord, askPlace, gate, requestedOne, stored, done}
 use Rattle.unit.specs.Calls.{answeredBy, writeOf, advanceOf, isTaken}
-use Rattle.history.specs.Moments.{actsOf, acts, does, through, Typed, see, isTargetOf, isStepOf, eventOf, moments, Typed, SetsGoing}
+use Rattle.history.specs.Moments.{actsOf, acts, does, through, Typed, priorityOf, see, isTargetOf, isStepOf, eventOf, moments, SetsGoing}
 use Rattle.history.specs.Term3.{firstPeriod, Cut, atCount, atStart, momentsGone, momentsNow}
 use Rattle.words.specs.Choice.{ask}
 use Rattle.words.specs.Clock.{since, due, later}
@@ -18,7 +18,7 @@ use Rattle.words.specs.Rotation.{rotatedRight, rotatedLeft}
 use Rattle.motor.specs.Stepping.{period, ahead, accelerates, choice, test, turn, onRequest, onMatch, beside}
 use Rattle.motor.specs.Group.{bound}
 use Rattle.motor.specs.Track.{stopPlace, distance}
-use Rattle.motor.specs.Count.{steps, movesOf, movesIn, latest, stopOf, stepsOf, ticksOf, ticksIn, isTarget, Moment, Running, Enabled, Undisturbed, after as seen-after}
+use Rattle.motor.specs.Count.{steps, movesOf, movesIn, latest, stopOf, stepsOf, ticksOf, ticksIn, isTarget, Moment, UnderWay, Enabled, Undisturbed, after as seen-after}
 use Rattle.trials.specs.History.{setUp, onTheWay, after, history, Met}
 use Rattle.unit.proofs.Tests.{not-yes}
 use Rattle.words.proofs.ChoiceLaws.{and-left, and-right}
@@ -27,7 +27,7 @@ use Rattle.history.proofs.Term3.{term-3}
 -- tests over moments, which compute, and what they say
 unfoldable allBound : List Moment → Bool
 allBound [] = true
-allBound (m ∷ ms) = m .was .bound && allBound ms
+allBound (m ∷ ms) = m .is .bound && allBound ms
 
 unfoldable allEnabled : List Moment → Bool
 allEnabled [] = true
@@ -37,10 +37,10 @@ unfoldable calm : List Moment → Bool
 calm [] = true
 calm (m ∷ ms) = m .was .enabled && (not (isTarget (m .event)) && calm ms)
 
-running : (ms : List Moment) → allBound ms ≡ true → Running ms
-unfolding allBound Running
-running [] e = tt
-running (m ∷ ms) e = (and-left (m .was .bound) (allBound ms) e, running ms (and-right (m .was .bound) (allBound ms) e))
+under-way : (ms : List Moment) → allBound ms ≡ true → UnderWay ms
+unfolding allBound UnderWay
+under-way [] e = tt
+under-way (m ∷ ms) e = (λ t. and-left (m .is .bound) (allBound ms) e, under-way ms (and-right (m .is .bound) (allBound ms) e))
 
 enabled-all : (ms : List Moment) → allEnabled ms ≡ true → Enabled ms
 unfolding allEnabled Enabled
@@ -55,46 +55,41 @@ undisturbed (m ∷ ms) e =
     λ b. (and-left (m .was .enabled) (not (isTarget (m .event)) && calm ms) e, not-yes (isTarget (m .event)) (and-left (not (isTarget (m .event))) (calm ms) r), undisturbed ms (and-right (not (isTarget (m .event))) (calm ms) r))
 
 starts : SetsGoing 4 0xe1a 0x0300 (through resetState (acts setUp))
-unfolding withWords withReg withTime withPins withChannel each all any cfsrOf hsrrOf cprOf reg function request withRequest enabled status withStatus withPin channel withInitialised withLevel withPhase word withWord exists channelControl pinControl position target modCount nextRate top last cntl0 cntl1 size motorOf stepping reaches isBound pinOut pinsOut nextCount turnedOnce prepared matchSet stepped outcome matchOf matched initialise stepRequest requestServed matchServed served clocked tick afterTicks place isPlace inList isFree isStepper mayInitialise otherwiseZero spanGood isReady groupReady showsPattern patternGood rampGood targetGood advanceGood requested askInitialise askStep askChannel andThen askChannels verdictOf keepsOrFree askRegister askWord askPlace gate requestedOne stored done answeredBy writeOf advanceOf actsOf acts does through Typed see isTaken isTargetOf isStepOf eventOf moments firstPeriod ask since due later field withField bitOf rotatedRight rotatedLeft period ahead accelerates choice test turn onRequest onMatch beside bound stopPlace distance movesOf movesIn latest stopOf stepsOf ticksOf ticksIn isTarget setUp onTheWay after history allBound allEnabled calm
+unfolding withWords withReg withTime withPins withChannel each all any cfsrOf hsrrOf cprOf reg function request withRequest enabled status withStatus withPin channel withInitialised withLevel withPhase word withWord exists channelControl pinControl position target modCount nextRate top last cntl0 cntl1 size motorOf stepping reaches isBound pinOut pinsOut nextCount turnedOnce prepared matchSet stepped outcome matchOf matched initialise stepRequest requestServed matchServed served clocked tick afterTicks place isPlace inList isFree isStepper mayInitialise otherwiseZero spanGood isReady groupReady showsPattern patternGood rampGood targetGood advanceGood requested askInitialise askStep askChannel andThen askChannels verdictOf keepsOrFree askRegister askWord askPlace gate requestedOne stored done answeredBy writeOf advanceOf actsOf acts does through Typed priorityOf see isTaken isTargetOf isStepOf eventOf moments firstPeriod ask since due later field withField bitOf rotatedRight rotatedLeft period ahead accelerates choice test turn onRequest onMatch beside bound stopPlace distance movesOf movesIn latest stopOf stepsOf ticksOf ticksIn isTarget setUp onTheWay after history allBound allEnabled calm
 starts = record { step = refl; taken = refl; resting = refl }
 
 gone-bound : allBound (momentsGone history) ≡ true
-unfolding withWords withReg withTime withPins withChannel each all any cfsrOf hsrrOf cprOf reg function request withRequest enabled status withStatus withPin channel withInitialised withLevel withPhase word withWord exists channelControl pinControl position target modCount nextRate top last cntl0 cntl1 size motorOf stepping reaches isBound pinOut pinsOut nextCount turnedOnce prepared matchSet stepped outcome matchOf matched initialise stepRequest requestServed matchServed served clocked tick afterTicks place isPlace inList isFree isStepper mayInitialise otherwiseZero spanGood isReady groupReady showsPattern patternGood rampGood targetGood advanceGood requested askInitialise askStep askChannel andThen askChannels verdictOf keepsOrFree askRegister askWord askPlace gate requestedOne stored done answeredBy writeOf advanceOf actsOf acts does through Typed see isTaken isTargetOf isStepOf eventOf moments firstPeriod ask since due later field withField bitOf rotatedRight rotatedLeft period ahead accelerates choice test turn onRequest onMatch beside bound stopPlace distance movesOf movesIn latest stopOf stepsOf ticksOf ticksIn isTarget setUp onTheWay after history allBound allEnabled calm
+unfolding withWords withReg withTime withPins withChannel each all any cfsrOf hsrrOf cprOf reg function request withRequest enabled status withStatus withPin channel withInitialised withLevel withPhase word withWord exists channelControl pinControl position target modCount nextRate top last cntl0 cntl1 size motorOf stepping reaches isBound pinOut pinsOut nextCount turnedOnce prepared matchSet stepped outcome matchOf matched initialise stepRequest requestServed matchServed served clocked tick afterTicks place isPlace inList isFree isStepper mayInitialise otherwiseZero spanGood isReady groupReady showsPattern patternGood rampGood targetGood advanceGood requested askInitialise askStep askChannel andThen askChannels verdictOf keepsOrFree askRegister askWord askPlace gate requestedOne stored done answeredBy writeOf advanceOf actsOf acts does through Typed priorityOf see isTaken isTargetOf isStepOf eventOf moments firstPeriod ask since due later field withField bitOf rotatedRight rotatedLeft period ahead accelerates choice test turn onRequest onMatch beside bound stopPlace distance movesOf movesIn latest stopOf stepsOf ticksOf ticksIn isTarget setUp onTheWay after history allBound allEnabled calm
 gone-bound = refl
 
 gone-enabled : allEnabled (momentsGone history) ≡ true
-unfolding withWords withReg withTime withPins withChannel each all any cfsrOf hsrrOf cprOf reg function request withRequest enabled status withStatus withPin channel withInitialised withLevel withPhase word withWord exists channelControl pinControl position target modCount nextRate top last cntl0 cntl1 size motorOf stepping reaches isBound pinOut pinsOut nextCount turnedOnce prepared matchSet stepped outcome matchOf matched initialise stepRequest requestServed matchServed served clocked tick afterTicks place isPlace inList isFree isStepper mayInitialise otherwiseZero spanGood isReady groupReady showsPattern patternGood rampGood targetGood advanceGood requested askInitialise askStep askChannel andThen askChannels verdictOf keepsOrFree askRegister askWord askPlace gate requestedOne stored done answeredBy writeOf advanceOf actsOf acts does through Typed see isTaken isTargetOf isStepOf eventOf moments firstPeriod ask since due later field withField bitOf rotatedRight rotatedLeft period ahead accelerates choice test turn onRequest onMatch beside bound stopPlace distance movesOf movesIn latest stopOf stepsOf ticksOf ticksIn isTarget setUp onTheWay after history allBound allEnabled calm
+unfolding withWords withReg withTime withPins withChannel each all any cfsrOf hsrrOf cprOf reg function request withRequest enabled status withStatus withPin channel withInitialised withLevel withPhase word withWord exists channelControl pinControl position target modCount nextRate top last cntl0 cntl1 size motorOf stepping reaches isBound pinOut pinsOut nextCount turnedOnce prepared matchSet stepped outcome matchOf matched initialise stepRequest requestServed matchServed served clocked tick afterTicks place isPlace inList isFree isStepper mayInitialise otherwiseZero spanGood isReady groupReady showsPattern patternGood rampGood targetGood advanceGood requested askInitialise askStep askChannel andThen askChannels verdictOf keepsOrFree askRegister askWord askPlace gate requestedOne stored done answeredBy writeOf advanceOf actsOf acts does through Typed priorityOf see isTaken isTargetOf isStepOf eventOf moments firstPeriod ask since due later field withField bitOf rotatedRight rotatedLeft period ahead accelerates choice test turn onRequest onMatch beside bound stopPlace distance movesOf movesIn latest stopOf stepsOf ticksOf ticksIn isTarget setUp onTheWay after history allBound allEnabled calm
 gone-enabled = refl
 
 now-calm : calm (momentsNow history) ≡ true
-unfolding withWords withReg withTime withPins withChannel each all any cfsrOf hsrrOf cprOf reg function request withRequest enabled status withStatus withPin channel withInitialised withLevel withPhase word withWord exists channelControl pinControl position target modCount nextRate top last cntl0 cntl1 size motorOf stepping reaches isBound pinOut pinsOut nextCount turnedOnce prepared matchSet stepped outcome matchOf matched initialise stepRequest requestServed matchServed served clocked tick afterTicks place isPlace inList isFree isStepper mayInitialise otherwiseZero spanGood isReady groupReady showsPattern patternGood rampGood targetGood advanceGood requested askInitialise askStep askChannel andThen askChannels verdictOf keepsOrFree askRegister askWord askPlace gate requestedOne stored done answeredBy writeOf advanceOf actsOf acts does through Typed see isTaken isTargetOf isStepOf eventOf moments firstPeriod ask since due later field withField bitOf rotatedRight rotatedLeft period ahead accelerates choice test turn onRequest onMatch beside bound stopPlace distance movesOf movesIn latest stopOf stepsOf ticksOf ticksIn isTarget setUp onTheWay after history allBound allEnabled calm
+unfolding withWords withReg withTime withPins withChannel each all any cfsrOf hsrrOf cprOf reg function request withRequest enabled status withStatus withPin channel withInitialised withLevel withPhase word withWord exists channelControl pinControl position target modCount nextRate top last cntl0 cntl1 size motorOf stepping reaches isBound pinOut pinsOut nextCount turnedOnce prepared matchSet stepped outcome matchOf matched initialise stepRequest requestServed matchServed served clocked tick afterTicks place isPlace inList isFree isStepper mayInitialise otherwiseZero spanGood isReady groupReady showsPattern patternGood rampGood targetGood advanceGood requested askInitialise askStep askChannel andThen askChannels verdictOf keepsOrFree askRegister askWord askPlace gate requestedOne stored done answeredBy writeOf advanceOf actsOf acts does through Typed priorityOf see isTaken isTargetOf isStepOf eventOf moments firstPeriod ask since due later field withField bitOf rotatedRight rotatedLeft period ahead accelerates choice test turn onRequest onMatch beside bound stopPlace distance movesOf movesIn latest stopOf stepsOf ticksOf ticksIn isTarget setUp onTheWay after history allBound allEnabled calm
 now-calm = refl
 
-still-bound : isBound (atCount history) 4 ≡ true
-unfolding withWords withReg withTime withPins withChannel each all any cfsrOf hsrrOf cprOf reg function request withRequest enabled status withStatus withPin channel withInitialised withLevel withPhase word withWord exists channelControl pinControl position target modCount nextRate top last cntl0 cntl1 size motorOf stepping reaches isBound pinOut pinsOut nextCount turnedOnce prepared matchSet stepped outcome matchOf matched initialise stepRequest requestServed matchServed served clocked tick afterTicks place isPlace inList isFree isStepper mayInitialise otherwiseZero spanGood isReady groupReady showsPattern patternGood rampGood targetGood advanceGood requested askInitialise askStep askChannel andThen askChannels verdictOf keepsOrFree askRegister askWord askPlace gate requestedOne stored done answeredBy writeOf advanceOf actsOf acts does through Typed see isTaken isTargetOf isStepOf eventOf moments firstPeriod ask since due later field withField bitOf rotatedRight rotatedLeft period ahead accelerates choice test turn onRequest onMatch beside bound stopPlace distance movesOf movesIn latest stopOf stepsOf ticksOf ticksIn isTarget setUp onTheWay after history allBound allEnabled calm
-still-bound = refl
-
 cut : Cut history
-unfolding withWords withReg withTime withPins withChannel each all any cfsrOf hsrrOf cprOf reg function request withRequest enabled status withStatus withPin channel withInitialised withLevel withPhase word withWord exists channelControl pinControl position target modCount nextRate top last cntl0 cntl1 size motorOf stepping reaches isBound pinOut pinsOut nextCount turnedOnce prepared matchSet stepped outcome matchOf matched initialise stepRequest requestServed matchServed served clocked tick afterTicks place isPlace inList isFree isStepper mayInitialise otherwiseZero spanGood isReady groupReady showsPattern patternGood rampGood targetGood advanceGood requested askInitialise askStep askChannel andThen askChannels verdictOf keepsOrFree askRegister askWord askPlace gate requestedOne stored done answeredBy writeOf advanceOf actsOf acts does through Typed see isTaken isTargetOf isStepOf eventOf moments firstPeriod ask since due later field withField bitOf rotatedRight rotatedLeft period ahead accelerates choice test turn onRequest onMatch beside bound stopPlace distance movesOf movesIn latest stopOf stepsOf ticksOf ticksIn isTarget setUp onTheWay after history allBound allEnabled calm
+unfolding withWords withReg withTime withPins withChannel each all any cfsrOf hsrrOf cprOf reg function request withRequest enabled status withStatus withPin channel withInitialised withLevel withPhase word withWord exists channelControl pinControl position target modCount nextRate top last cntl0 cntl1 size motorOf stepping reaches isBound pinOut pinsOut nextCount turnedOnce prepared matchSet stepped outcome matchOf matched initialise stepRequest requestServed matchServed served clocked tick afterTicks place isPlace inList isFree isStepper mayInitialise otherwiseZero spanGood isReady groupReady showsPattern patternGood rampGood targetGood advanceGood requested askInitialise askStep askChannel andThen askChannels verdictOf keepsOrFree askRegister askWord askPlace gate requestedOne stored done answeredBy writeOf advanceOf actsOf acts does through Typed priorityOf see isTaken isTargetOf isStepOf eventOf moments firstPeriod ask since due later field withField bitOf rotatedRight rotatedLeft period ahead accelerates choice test turn onRequest onMatch beside bound stopPlace distance movesOf movesIn latest stopOf stepsOf ticksOf ticksIn isTarget setUp onTheWay after history allBound allEnabled calm
 cut =
     record {
       listed = (omega arith, (omega arith, (omega arith, (omega arith, (omega arith, (omega arith, (omega arith, (omega arith, (omega arith, (omega arith, (omega arith, (omega arith, (omega arith, (omega arith, (omega arith, (omega arith, (omega arith, (omega arith, (omega arith, (omega arith, (omega arith, (omega arith, (omega arith, (omega arith, (omega arith, (omega arith, (omega arith, (omega arith, (omega arith, (omega arith, tt))))))))))))))))))))))))))))));
       whole = refl;
       starts = starts;
-      running = running (momentsGone history) gone-bound;
-      bound = still-bound;
+      under-way = under-way (momentsGone history) gone-bound;
     }
 
 -- so many ticks are enough, and there are more
-bound-is : 1 + firstPeriod 4 (atCount history) * (steps (firstPeriod 4 (atCount history)) (see 4 (atStart history)) (momentsGone history) (momentsNow history) + 1) ≡ 43
-unfolding withWords withReg withTime withPins withChannel each all any cfsrOf hsrrOf cprOf reg function request withRequest enabled status withStatus withPin channel withInitialised withLevel withPhase word withWord exists channelControl pinControl position target modCount nextRate top last cntl0 cntl1 size motorOf stepping reaches isBound pinOut pinsOut nextCount turnedOnce prepared matchSet stepped outcome matchOf matched initialise stepRequest requestServed matchServed served clocked tick afterTicks place isPlace inList isFree isStepper mayInitialise otherwiseZero spanGood isReady groupReady showsPattern patternGood rampGood targetGood advanceGood requested askInitialise askStep askChannel andThen askChannels verdictOf keepsOrFree askRegister askWord askPlace gate requestedOne stored done answeredBy writeOf advanceOf actsOf acts does through Typed see isTaken isTargetOf isStepOf eventOf moments firstPeriod ask since due later field withField bitOf rotatedRight rotatedLeft period ahead accelerates choice test turn onRequest onMatch beside bound stopPlace distance movesOf movesIn latest stopOf stepsOf ticksOf ticksIn isTarget setUp onTheWay after history allBound allEnabled calm seen-after
+bound-is : 1 + firstPeriod 4 (atCount history) * (steps (see 4 (atStart history)) (momentsGone history) + 1) ≡ 43
+unfolding withWords withReg withTime withPins withChannel each all any cfsrOf hsrrOf cprOf reg function request withRequest enabled status withStatus withPin channel withInitialised withLevel withPhase word withWord exists channelControl pinControl position target modCount nextRate top last cntl0 cntl1 size motorOf stepping reaches isBound pinOut pinsOut nextCount turnedOnce prepared matchSet stepped outcome matchOf matched initialise stepRequest requestServed matchServed served clocked tick afterTicks place isPlace inList isFree isStepper mayInitialise otherwiseZero spanGood isReady groupReady showsPattern patternGood rampGood targetGood advanceGood requested askInitialise askStep askChannel andThen askChannels verdictOf keepsOrFree askRegister askWord askPlace gate requestedOne stored done answeredBy writeOf advanceOf actsOf acts does through Typed priorityOf see isTaken isTargetOf isStepOf eventOf moments firstPeriod ask since due later field withField bitOf rotatedRight rotatedLeft period ahead accelerates choice test turn onRequest onMatch beside bound stopPlace distance movesOf movesIn latest stopOf stepsOf ticksOf ticksIn isTarget setUp onTheWay after history allBound allEnabled calm seen-after
 bound-is = refl
 
 ticks-are : ticksIn (momentsNow history) ≡ 80
-unfolding withWords withReg withTime withPins withChannel each all any cfsrOf hsrrOf cprOf reg function request withRequest enabled status withStatus withPin channel withInitialised withLevel withPhase word withWord exists channelControl pinControl position target modCount nextRate top last cntl0 cntl1 size motorOf stepping reaches isBound pinOut pinsOut nextCount turnedOnce prepared matchSet stepped outcome matchOf matched initialise stepRequest requestServed matchServed served clocked tick afterTicks place isPlace inList isFree isStepper mayInitialise otherwiseZero spanGood isReady groupReady showsPattern patternGood rampGood targetGood advanceGood requested askInitialise askStep askChannel andThen askChannels verdictOf keepsOrFree askRegister askWord askPlace gate requestedOne stored done answeredBy writeOf advanceOf actsOf acts does through Typed see isTaken isTargetOf isStepOf eventOf moments firstPeriod ask since due later field withField bitOf rotatedRight rotatedLeft period ahead accelerates choice test turn onRequest onMatch beside bound stopPlace distance movesOf movesIn latest stopOf stepsOf ticksOf ticksIn isTarget setUp onTheWay after history allBound allEnabled calm
+unfolding withWords withReg withTime withPins withChannel each all any cfsrOf hsrrOf cprOf reg function request withRequest enabled status withStatus withPin channel withInitialised withLevel withPhase word withWord exists channelControl pinControl position target modCount nextRate top last cntl0 cntl1 size motorOf stepping reaches isBound pinOut pinsOut nextCount turnedOnce prepared matchSet stepped outcome matchOf matched initialise stepRequest requestServed matchServed served clocked tick afterTicks place isPlace inList isFree isStepper mayInitialise otherwiseZero spanGood isReady groupReady showsPattern patternGood rampGood targetGood advanceGood requested askInitialise askStep askChannel andThen askChannels verdictOf keepsOrFree askRegister askWord askPlace gate requestedOne stored done answeredBy writeOf advanceOf actsOf acts does through Typed priorityOf see isTaken isTargetOf isStepOf eventOf moments firstPeriod ask since due later field withField bitOf rotatedRight rotatedLeft period ahead accelerates choice test turn onRequest onMatch beside bound stopPlace distance movesOf movesIn latest stopOf stepsOf ticksOf ticksIn isTarget setUp onTheWay after history allBound allEnabled calm
 ticks-are = refl
 
-enough : 1 + firstPeriod 4 (atCount history) * (steps (firstPeriod 4 (atCount history)) (see 4 (atStart history)) (momentsGone history) (momentsNow history) + 1) ≤ ticksIn (momentsNow history)
+enough : 1 + firstPeriod 4 (atCount history) * (steps (see 4 (atStart history)) (momentsGone history) + 1) ≤ ticksIn (momentsNow history)
 enough = omega (arith, bound-is, ticks-are)
 
 pub met : Met

@@ -44,5 +44,5 @@ pub record Met : Type 0 where
   pub cut : Cut history
   pub enabled : Enabled (momentsGone history)
   pub undisturbed : Undisturbed (momentsNow history)
-  pub enough : 1 + firstPeriod 4 (atCount history) * (steps (firstPeriod 4 (atCount history)) (see 4 (atStart history)) (momentsGone history) (momentsNow history) + 1) ≤ ticksIn (momentsNow history)
-  pub arrives : Arrives (firstPeriod 4 (atCount history)) (see 4 (atStart history)) (momentsGone history) (momentsNow history)
+  pub enough : 1 + firstPeriod 4 (atCount history) * (steps (see 4 (atStart history)) (momentsGone history) + 1) ≤ ticksIn (momentsNow history)
+  pub arrives : Arrives (see 4 (atStart history)) (momentsGone history) (momentsNow history)

@@ -1,0 +1,87 @@
+-- Short runs of the definitions from reset, each with what it must show: a move right and left, tick by tick, each number of the gate, and
+-- each priority. The figures of the two moves come from a model written apart from the definitions.
+use Prim.Native.Nat.{ℕ}
+use mathlib.Core.Bool.{true, false}
+use mathlib.Core.List.{List, [], _∷_, _++_}
+use mathlib.Core.Path.{_≡_}
+use lib.ListN.{replicate}
+use Rattle.motor.specs.declared.Way.the-variants.{Right}
+use Rattle.motor.specs.declared.Phase.the-variants.{Armed, Matched}
+use Rattle.unit.specs.declared.State.{State}
+use Rattle.unit.specs.TheUnit.{resetState, cisr, withTime, reg, channel, withPhase, word, position, target}
+use Rattle.unit.specs.OneTick.{matched, afterTicks}
+use Rattle.unit.specs.Gate.{advanceGood, gate}
+use Rattle.unit.specs.Calls.{pinWords, Call, Write, Advance, writeOf, run}
+use Rattle.unit.specs.Answers.{verdictNumber}
+
+-- channels 4 and 5 initialised with the patterns $8421 and $1234, P(1) = 6, N = 3, and the motor at rest
+unfoldable pub ready : ℕ → ℕ → List Call
+ready here there =
+    Write 0xe10 0x00dd ∷ Write 0xe1e 0x0500 ∷ Write 0xf42 0x8421 ∷ Write 0xf40 0x0081 ∷ Write 0xf52 0x1234 ∷ Write 0xf50 0x0082
+    ∷ Write 0xe1a 0x0a00 ∷ Advance 1 (0 ∷ []) ∷ Write 0xe20 0
+    ∷ Write 0xf44 here ∷ Write 0xf46 there ∷ Write 0xf48 0x0001 ∷ Write 0xf4a 0x0305 ∷ Write 0xf54 1 ∷ Write 0xf56 8 ∷ []
+
+unfoldable pub goes : ℕ → ℕ → State
+goes here there = run resetState (ready here there ++ (Write 0xe1a 0x0300 ∷ []))
+
+-- the pin word, position, word 4, the two CHANNEL_CONTROL words and CISR
+unfoldable pub shows : State → List ℕ
+shows s = s .pins ∷ position s 4 ∷ word s 4 4 ∷ word s 4 0 ∷ word s 5 0 ∷ reg s cisr ∷ []
+
+-- after these writes to a motor at rest, the number of a write, 0 for taken
+unfoldable pub refuses : List Call → ℕ → ℕ → ℕ
+refuses xs a v = verdictNumber (gate (run resetState (ready 0 3 ++ xs)) a v)
+
+-- how far the first tick moves the motor with this word in CPR1, in which bits 9 and 8 are its priority
+unfoldable pub firstStep : ℕ → ℕ
+firstStep cpr = position (afterTicks 1 (run resetState (ready 0 3 ++ (Write 0xe1e cpr ∷ Write 0xe1a 0x0300 ∷ [])))) 4
+
+pub record Rows : Type 0 where
+  -- 0 to 4: steps in ticks 1, 7, 12 and 18, pins one period later, arrival in tick 24
+  pub row-right : (shows (afterTicks 1 (goes 0 4)) ≡ 0x10 ∷ 1 ∷ 258 ∷ 0xc210 ∷ 0x91a ∷ 0x0 ∷ [])
+      × (shows (afterTicks 6 (goes 0 4)) ≡ 0x10 ∷ 1 ∷ 258 ∷ 0xc210 ∷ 0x91a ∷ 0x0 ∷ [])
+      × (shows (afterTicks 7 (goes 0 4)) ≡ 0x10 ∷ 2 ∷ 513 ∷ 0x6108 ∷ 0x48d ∷ 0x0 ∷ [])
+      × (shows (afterTicks 12 (goes 0 4)) ≡ 0x0 ∷ 3 ∷ 769 ∷ 0x3084 ∷ 0x8246 ∷ 0x0 ∷ [])
+      × (shows (afterTicks 23 (goes 0 4)) ≡ 0x20 ∷ 4 ∷ 1025 ∷ 0x1842 ∷ 0x4123 ∷ 0x0 ∷ [])
+      × (shows (afterTicks 24 (goes 0 4)) ≡ 0x0 ∷ 4 ∷ 1025 ∷ 0x1842 ∷ 0x4123 ∷ 0x10 ∷ [])
+  -- 7 to 3, the mirror image
+  pub row-left : (shows (afterTicks 1 (goes 7 3)) ≡ 0x10 ∷ 6 ∷ 3842 ∷ 0x843 ∷ 0x2468 ∷ 0x0 ∷ [])
+      × (shows (afterTicks 6 (goes 7 3)) ≡ 0x10 ∷ 6 ∷ 3842 ∷ 0x843 ∷ 0x2468 ∷ 0x0 ∷ [])
+      × (shows (afterTicks 7 (goes 7 3)) ≡ 0x0 ∷ 5 ∷ 3585 ∷ 0x1086 ∷ 0x48d0 ∷ 0x0 ∷ [])
+      × (shows (afterTicks 12 (goes 7 3)) ≡ 0x0 ∷ 4 ∷ 3329 ∷ 0x210c ∷ 0x91a0 ∷ 0x0 ∷ [])
+      × (shows (afterTicks 23 (goes 7 3)) ≡ 0x20 ∷ 3 ∷ 3073 ∷ 0x4218 ∷ 0x2341 ∷ 0x0 ∷ [])
+      × (shows (afterTicks 24 (goes 7 3)) ≡ 0x0 ∷ 3 ∷ 3073 ∷ 0x4218 ∷ 0x2341 ∷ 0x10 ∷ [])
+  -- the pin word of each tick is its own
+  pub row-pins : pinWords 2 (afterTicks 22 (goes 0 4)) ≡ 0x20 ∷ 0x0 ∷ []
+  -- a match beyond the wrap of TCR1 is not due before it
+  pub row-wrap : ((channel (matched 4 (withTime (withPhase resetState 4 Right (Armed 3)) 0xfffe)) 4) .phase ≡ Armed 3) × ((channel (matched 4 (withTime (withPhase resetState 4 Right (Armed 3)) 3)) 4) .phase ≡ Matched 3)
+  -- a target put behind a fast motor: it slows down first
+  pub row-behind : position (afterTicks 4 ((writeOf (afterTicks 12 (goes 0 9)) 0xf46 1) .state)) 4 ≡ 4
+  -- question 1: an odd address, and one that is not in the list
+  pub row-question-1 : (refuses [] 0xe0b 0 ≡ 1) × (refuses [] 0xe08 0 ≡ 1) × (refuses [] 0xe22 0 ≡ 1) × (refuses [] 0xffe 0 ≡ 0)
+  -- question 2: a word of a group under way, but its target, and a channel with a pending request
+  pub row-question-2 : (refuses (Write 0xe1a 0x0300 ∷ []) 0xf4a 0 ≡ 2) × (refuses (Write 0xe1a 0x0300 ∷ []) 0xf50 0 ≡ 2) × (refuses (Write 0xe1a 0x0300 ∷ []) 0xf46 1 ≡ 0) × (refuses (Write 0xf40 0x0081 ∷ Write 0xe1a 0x0200 ∷ []) 0xf46 1 ≡ 2)
+  -- question 3: another function
+  pub row-question-3 : refuses (Write 0xe10 0x00dc ∷ []) 0xe1a 0x0300 ≡ 3
+  -- question 4: CHANNEL_CONTROL for an initialise
+  pub row-question-4 : (refuses (Write 0xf40 0x0082 ∷ []) 0xe1a 0x0200 ≡ 4) × (refuses (Write 0xf40 0x00a1 ∷ []) 0xe1a 0x0200 ≡ 4) × (refuses (Write 0xf40 0xfe9d ∷ []) 0xe1a 0x0200 ≡ 0)
+  -- question 5: the span, and N from 1 to 14
+  pub row-question-5 : (refuses (Write 0xf4a 0x0304 ∷ []) 0xe1a 0x0300 ≡ 5) × (refuses (Write 0xf4a 0x030c ∷ []) 0xe1a 0x0300 ≡ 5) × (refuses (Write 0xf4a 0x0005 ∷ []) 0xe1a 0x0300 ≡ 5) × (refuses (Write 0xf4a 0x0f05 ∷ []) 0xe1a 0x0300 ≡ 5) × (refuses (Write 0xf4a 0x1305 ∷ []) 0xe1a 0x0300 ≡ 5)
+  -- question 6: a channel of the group that is not of function 13, or not initialised
+  pub row-question-6 : (refuses (Write 0xf4a 0x030b ∷ []) 0xe1a 0x0300 ≡ 6) × (refuses (Write 0xf50 0x1234 ∷ []) 0xe1a 0x0300 ≡ 6)
+  -- question 7: the next rate, word 4 otherwise, MOD_CNT and the pattern
+  pub row-question-7 : (refuses (Write 0xf48 0x0002 ∷ []) 0xe1a 0x0300 ≡ 7) × (refuses (Write 0xf48 0x0011 ∷ []) 0xe1a 0x0300 ≡ 7) × (refuses (Write 0xf48 0x0101 ∷ []) 0xe1a 0x0300 ≡ 7) × (refuses (Write 0xf52 0x2234 ∷ []) 0xe1a 0x0300 ≡ 7)
+  -- question 8: the shortest and the longest period
+  pub row-question-8 : (refuses (Write 0xf56 5 ∷ []) 0xe1a 0x0300 ≡ 0) × (refuses (Write 0xf56 4 ∷ []) 0xe1a 0x0300 ≡ 8) × (refuses (Write 0xf54 0 ∷ Write 0xf56 0x7fff ∷ []) 0xe1a 0x0300 ≡ 0) × (refuses (Write 0xf54 0 ∷ Write 0xf56 0x8000 ∷ []) 0xe1a 0x0300 ≡ 8)
+  -- question 9: the target at most $FFFF - N, at the request and while bound
+  pub row-question-9 : (refuses (Write 0xf46 0xfffc ∷ []) 0xe1a 0x0300 ≡ 0) × (refuses (Write 0xf46 0xfffd ∷ []) 0xe1a 0x0300 ≡ 9) × (refuses (Write 0xe1a 0x0300 ∷ []) 0xf46 0xfffd ≡ 9) × (refuses [] 0xf46 0xfffd ≡ 0)
+  -- question 10: so many ticks, and room for them
+  pub row-question-10 : (advanceGood 4097 (replicate 4097 0) ≡ false) × (advanceGood 2 (0 ∷ []) ≡ false) × (advanceGood 2 (0 ∷ 0 ∷ []) ≡ true) × (advanceGood 0 [] ≡ true)
+  -- a CFSR word concerns the channels whose field differs: beside a group under way, and in it
+  pub row-functions : (refuses (Write 0xe1a 0x0300 ∷ []) 0xe10 0x0ddd ≡ 0) × (refuses (Write 0xe1a 0x0300 ∷ []) 0xe10 0x00dc ≡ 2)
+  -- a request waits while the priority is 00; 01, 10 and 11 have it served
+  pub row-priorities : (firstStep 0x0400 ≡ 0) × (firstStep 0x0500 ≡ 1) × (firstStep 0x0600 ≡ 1) × (firstStep 0x0700 ≡ 1)
+  -- in an HSRR word the lowest refused channel gives the number, and the lower ones count as taken: from the top the first would be 4
+  pub row-word : (refuses [] 0xe1a 0x0b00 ≡ 2) × (refuses (Write 0xf50 0x0082 ∷ Write 0xe1a 0x0800 ∷ []) 0xe1a 0x0300 ≡ 6) × (refuses [] 0xe1a 0x0000 ≡ 0)
+  -- a target taken under way is the one in memory, and a refused write changes nothing
+  pub row-writes : (target ((writeOf (goes 0 3) 0xf46 1) .state) 4 ≡ 1) × (word ((writeOf (goes 0 3) 0xf4a 0) .state) 4 5 ≡ 0x0305) × (((writeOf (goes 0 3) 0xf4a 0) .state) .tcr1 ≡ 1)
