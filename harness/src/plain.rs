@@ -262,14 +262,18 @@ impl Plain {
         self.ask_group(c)?;
         self.ask_ramp_and_target(c)?;
         self.channels[c].request = STEP;
-        self.channels[c].phase = Phase::Requested;
+        self.bind(c);
         if self.makes(Blunder::LightsAtRequest) {
             self.cisr |= 1 << c;
         }
+        Ok(())
+    }
+
+    fn bind(&mut self, c: usize) {
+        self.channels[c].phase = Phase::Requested;
         for g in c..=self.last(c) {
             self.channels[g].bound = true;
         }
-        Ok(())
     }
 
     /// Questions 5 to 7.
@@ -385,7 +389,12 @@ impl Plain {
             }
             STEP => {
                 self.channels[c].request = 0;
-                if self.channels[c].phase == Phase::Requested {
+                let stepping = matches!(
+                    self.channels[c].phase,
+                    Phase::Armed(_) | Phase::Matched(_)
+                );
+                if !stepping {
+                    self.bind(c);
                     self.test(c, self.tcr1);
                 }
             }

@@ -35,15 +35,18 @@ pub fn is_asked(on: bool, r: u16) -> bool
     if on { 2 <= r } else { false }
 }
 
-// An enabled motor is tested where its request to step is served at rest, or its match. The phase is that before the request.
+// An enabled motor is tested by its request to step unless it is stepping, or by its match. The phase is that before the request.
 pub fn is_tested(on: bool, r: u16, p: Phase) -> bool
     ensures { λ out. ⌜ out ≡ isTested on r p ⌝ }
 {
+    if !on {
+        return false;
+    }
     match p {
-        Phase::Resting => false,
-        Phase::Requested => { if on { r == 3 } else { false } }
+        Phase::Resting => r == 3,
+        Phase::Requested => r == 3,
         Phase::Armed(_) => false,
-        Phase::Matched(_) => on,
+        Phase::Matched(_) => true,
     }
 }
 

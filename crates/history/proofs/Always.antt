@@ -1,11 +1,10 @@
 -- In every history each group under way is held and shown, and the pins show what they should.
-use Prim.Native.Nat.{ℕ, _+_, _-_, _*_, _/_, _%_, _^_, _<_}
+use Prim.Native.Nat.{ℕ, _+_, _-_, _*_, _/_, _%_, _<_}
 use native.Mathlib.Omega.{arith}
 use mathlib.Core.Bool.{Bool, true, false, not}
 use mathlib.Core.List.{List, [], _∷_}
 use mathlib.Core.Path.{_≡_, refl, ap, sym, subst, _∙_}
 use mathlib.Core.Logic.{_≢_, _⊎_, inl, inr, ⊎-elim}
-use native.Mathlib.Nat.{zero-div}
 use lib.Dec.{eqb}
 use borrow.Author.Tests.{le-leb, eq-eqb, ne-eqb, eqb-true, eqb-false}
 use Rattle.words.specs.Choice.{pick}
@@ -20,7 +19,7 @@ use Rattle.unit.specs.OneTick.{tick}
 use Rattle.unit.specs.Gate.{mayInitialise}
 use Rattle.unit.specs.Calls.{Call}
 use Rattle.history.specs.Moments.{Act, Ticks as ticks, Writes as writes, Nothing as nothing, does, through, priorityOf}
-use Rattle.history.specs.Always.{GroupShown, StateOf, ByInitialise, ByMatch, Pending, InitialiseIs, Untouched, Always}
+use Rattle.history.specs.Always.{GroupShown, StateOf, ByInitialise, ByMatch, Pending, StepPending, InitialiseIs, Untouched, Always}
 use Rattle.history.proofs.Alone.{fades-tick}
 use Rattle.history.proofs.Held.{Held}
 use Rattle.history.proofs.Parts.{Part, part}
@@ -31,7 +30,7 @@ use Rattle.history.proofs.Asked.{asked}
 use Rattle.history.proofs.Initialise.{Settled, settled}
 use Rattle.history.proofs.Lit.{Lit, ReachedBy, reached-by, tick-outcome, initialised-pin, lit-tick}
 use Rattle.unit.proofs.Reset.{same-all}
-use Rattle.history.proofs.Fine.{Fine, fine-reset, fine-tick}
+use Rattle.history.proofs.Fine.{Fine, none-asked, fine-reset, fine-tick}
 use Rattle.history.proofs.Chain.{tick-held}
 use Rattle.history.proofs.Calls.{Words, words-acts, words-first}
 use Rattle.history.proofs.Shown.{Every, shown-tick}
@@ -42,7 +41,7 @@ use Rattle.history.proofs.Every.{Good, good-write}
 every-tick : (s : State) → Fine s → Every s → Every (tick s)
 unfolding Every
 every-tick s f e p l g =
-    let h : Held p s × GroupShown p s = e p l ((fades-tick s (f .sized)) .still p g) in
+    let h : Held p s × GroupShown p s = e p l ((fades-tick s (f .sized) (f .going)) .still p g) in
     (tick-held p s (h .0) g, shown-tick p s f (h .0) (h .1))
 
 good-through : (xs : List Act) (s : State) → Words xs → Good s → Good (through s xs)
@@ -55,10 +54,6 @@ good-through (nothing ∷ xs) s w x = good-through xs s w x
 every-reset : Every resetState
 unfolding Every stepping channel bound
 every-reset p l g = absurd (not-both g (ap (λ (y : Channel). bound (y .phase)) (same-all idle 16 p)))
-
-none-asked : (j : ℕ) → request resetState j ≡ 0
-unfolding request reg field
-none-asked j = rw (same-all {A = ℕ} 0 12 (hsrrOf j), zero-div (2 ^ (2 * (j % 8)))) refl
 
 lit-reset : Lit resetState
 unfolding stepping channel bound
@@ -80,7 +75,7 @@ state-good calls s x = subst Good (sym (x .reached)) (good-through (x .before) r
 moves-only : (calls : List Call) (s : State) → StateOf calls s → (p : ℕ) → p < 16 → position (tick s) p ≢ position s p → (b : Bool) → stepping s p ≡ b → (stepping s p ≡ true) × GroupShown p s
 unfolding position Every
 moves-only calls s x p l n true t = (t, ((state-good calls s x) .1 p l t) .1)
-moves-only calls s x p l n false t = absurd (n ((fades-tick s (state-good calls s x .0 .sized)) .places p t))
+moves-only calls s x p l n false t = let f : Fine s = state-good calls s x .0 in absurd (n ((fades-tick s (f .sized) (f .going)) .places p t))
 
 -- ---- where a pin changes
 
@@ -134,7 +129,7 @@ disabled-is j s n = by (eqb (field 2 (reg s (9 + (1 - j / 8))) (2 * (j % 8))) 0)
     by false t = absurd (n (eqb-false _ 0 t))
 
 settles : (calls : List Call) (s : State) → StateOf calls s → (j : ℕ) → j < 16 → isBound s j ≡ false → Settled j s (tick s)
-settles calls s x j l u = settled j s l (state-good calls s x .0 .sized) (unbound-still j s u) (unreached j s (state-good calls s x .0 .sized) u)
+settles calls s x j l u = let f : Fine s = state-good calls s x .0 in settled j s l (f .sized) (f .going) (unbound-still j s u) (unreached j s (f .sized) u)
 
 initialise-is : (j : ℕ) (s t : State) → Settled j s t → mayInitialise s j ≡ true → request s j ≡ 2 → enabled s j ≡ true → InitialiseIs j s t
 unfolding part initialisedPart channelControl pinControl mayInitialise status request hsrrOf bitOf
@@ -159,13 +154,14 @@ untouched-is j s t x n =
     record { pin = ap (λ (y : Part). y .pin) q; control = ap (λ (y : Part). y .control) q; source = ap (λ (y : Part). y .source) q; set-up = ap (λ (y : Part). y .initialised) q; status = x .status-not n }
 
 pub always : Always
-unfolding Every channelControl Pending request hsrrOf
+unfolding Every channelControl Pending StepPending request hsrrOf
 always =
     record {
       shown = λ calls s x p l g. ((state-good calls s x) .1 p l g) .1;
       rests = λ calls s x j l u i. (state-good calls s x) .2 .rests j l u i;
       pins = λ calls s x j l n. pins-only calls s x j l n (isBound s j) refl;
       moves = λ calls s x p l n. moves-only calls s x p l n (stepping s p) refl;
+      under-way = λ calls s x. (state-good calls s x) .0 .going;
       questions = λ calls s x c a v g. asked c a v s (state-good calls s x .0) g;
       initialises = λ calls s x j l p e. let y : (mayInitialise s j ≡ true) × (isBound s j ≡ false) = (state-good calls s x) .2 .asked j l p in initialise-is j s (tick s) (settles calls s x j l (y .1)) (y .0) p (enabled-is j s e);
       untouched = λ calls s x j l u n. untouched-is j s (tick s) (settles calls s x j l u) (λ p. disabled-is j s (n p));

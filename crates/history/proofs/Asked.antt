@@ -53,7 +53,7 @@ lower-requests : (n a v : ℕ) (s : State) (j : ℕ) → Fine s → a + n ≤ j 
 unfolding each requestedOne
 lower-requests zero a v s j f l h = refl
 lower-requests (suc n) a v s j f l h =
-    requested-request _ (a + n) _ j ((fine-requests n a v s f) .sized) (omega arith) h (omega arith) ∙ lower-requests n a v s j f (omega arith) h
+    requested-request _ (a + n) _ j ((fine-requests n a v s (omega arith) f) .sized) (omega arith) h (omega arith) ∙ lower-requests n a v s j f (omega arith) h
 
 -- what is under way stays so
 requested-stepping : (s : State) (i r p : ℕ) → stepping s p ≡ true → stepping (requested s i r) p ≡ true
@@ -90,7 +90,7 @@ module _ (n i v : ℕ) (s : State) (f : Fine s) (l : n ≤ 8) (a : 7 ≤ i) (b :
   back-unbound : (j : ℕ) → isBound w j ≡ false → isBound s j ≡ false
   unfolding reaches last
   back-unbound j u =
-      let z : Sized w = (fine-requests n (8 * (8 - i)) v s f) .sized in
+      let z : Sized w = (fine-requests n (8 * (8 - i)) v s (omega arith) f) .sized in
       is-unbound j s (less (stepping s j) (stepping w j) (requests-stepping n (8 * (8 - i)) v s j) (unbound-still j w u))
       (λ p. less-reach (stepping s p) (stepping w p) _ (requests-stepping n (8 * (8 - i)) v s p)
       (subst (λ x. (stepping w p && (leb p j && leb j (field 4 x 0))) ≡ false) (same-word p 5) (unreached j w z u p)))
@@ -143,7 +143,7 @@ asked-next n i c v s l a b z e f g =
     (subst (λ x. IfYes (λ y. MayStep c s) (askChannel (field 2 v (2 * (x % 8))) x (each n (8 * (8 - i)) (requestedOne v) s))) z
     (walk-channel (λ y. MayStep c s) (field 2 v (2 * (c % 8))) c (each n (8 * (8 - i)) (requestedOne v) s) (λ p q. absurd (q e)) (λ p q2 q4. absurd (omega arith))
     (λ p t. absurd (not-both t (ap (λ (y : Channel). bound (y .phase)) (below-leave n (8 * (8 - i)) v s c (omega arith)) ∙ g)))
-    (λ p q. back-step n i v s f l a b c z (allowed c (each n (8 * (8 - i)) (requestedOne v) s) (fine-requests n (8 * (8 - i)) v s f) q)))))
+    (λ p q. back-step n i v s f l a b c z (allowed c (each n (8 * (8 - i)) (requestedOne v) s) (fine-requests n (8 * (8 - i)) v s (omega arith) f) q)))))
 
 asked-later : (Q : Type 0) (r j : ℕ) (k : Asked) → IfYes (λ x. Q) k → IfYes (λ x. Q) (andThen k (askChannel r j))
 asked-later Q r j k y = yes-then (λ x. Q) (λ x. Q) k (askChannel r j) y (λ w q. yes-map (λ x. requested w j r ≡ x) (λ x. Q) (askChannel r j w) (λ x t. q) (channel-asks r j w))

@@ -15,17 +15,16 @@ use Rattle.motor.specs.declared.Phase.{Phase}
 use Rattle.motor.specs.declared.Phase.the-variants.{Resting, Requested, Armed, Matched}
 use Rattle.motor.specs.declared.Outcome.{Outcome}
 use Rattle.motor.specs.declared.Outcome.the-variants.{Arrived, Step}
-use Rattle.motor.proofs.Counts.{unbound-rests}
 use Rattle.unit.specs.declared.State.{State}
 use Rattle.unit.specs.TheUnit.{withTime, each, reg, request, withRequest, enabled, status, withStatus, withPin, withPins, channel, withChannel, withInitialised, withLevel, withPhase, word, withWord, withWords, pin, modCount, size, stepping, reaches, channelControl, pinControl}
 use Rattle.unit.specs.Stepping.{pinOut, pinsOut, nextCount, prepared, matchSet, stepped, outcome}
 use Rattle.unit.specs.OneTick.{matchOf, matched, initialise, stepRequest, requestServed, matchServed, served, clocked, tick}
 use Rattle.unit.proofs.Reset.{Sized}
 use Rattle.unit.proofs.Access.{sized-pin, sized-word, sized-channel, request-same, request-other, request-status, status-same, status-other, status-request, enabled-request, enabled-status}
-use Rattle.history.proofs.Frame.{sized-request, sized-phase, sized-requestServed}
-use Rattle.history.proofs.Alone.{Fades, fades-each, fades-matched, fades-clocked, fades-served}
+use Rattle.history.proofs.Frame.{Going, sized-request, sized-phase, sized-requestServed}
+use Rattle.history.proofs.Alone.{Fades, request-initialise, fades-each, fades-clocked, fades-matches, fades-served}
 use Rattle.history.proofs.Parts.{part, part-served, part-request}
-use Rattle.history.proofs.Pins.{initialisedPart, own-initialise, request-initialise, still-apart, unbound-matches}
+use Rattle.history.proofs.Pins.{initialisedPart, own-initialise, still-apart, rests-on, unbound-matches}
 
 -- ---- the bits of a channel in the registers
 
@@ -94,7 +93,7 @@ module _ (i j : ℕ) (hi : i < 16) (hj : j < 16) (n : j ≢ i) where
 
   bits-stepRequest : (p : Phase) (s : State) → Sized s → bits (stepRequest p i s) j ≡ bits s j
   unfolding stepRequest
-  bits-stepRequest Resting s z = refl
+  bits-stepRequest Resting s z = bits-outcome s _ _ z
   bits-stepRequest Requested s z = bits-outcome s _ _ z
   bits-stepRequest (Armed t) s z = refl
   bits-stepRequest (Matched t) s z = refl
@@ -133,11 +132,12 @@ pub record Settled (j : ℕ) (s t : State) : Type 0 where
   pub status-not : (request s j ≡ 2 → enabled s j ≡ false) → status t j ≡ status s j
   pub request-off : enabled s j ≡ false → request t j ≡ request s j
 
-module _ (j : ℕ) (s : State) (h : j < 16) (z : Sized s) (rests : stepping s j ≡ false) (apart : (i : ℕ) → reaches s j i ≡ false) where
+module _ (j : ℕ) (s : State) (h : j < 16) (z : Sized s) (g : Going s) (rests : stepping s j ≡ false) (apart : (i : ℕ) → reaches s j i ≡ false) where
   -- its own service, at a state in which it is as it was
   own : (t : State) → Fades s t → part j j t ≡ part j j s → bits t j ≡ bits s j → Settled j s (served j t)
-  unfolding served matchServed requestServed stepRequest bits stepping
+  unfolding served matchServed requestServed bits
   own t f e b =
+      let q : ((channel t j) .phase ≡ Resting) × (request t j ≢ 3) = rests-on j s h z g rests apart t f in
       let r : request t j ≡ request s j = ap (λ (x : Bits). x .request) b in
       let o : enabled t j ≡ enabled s j = ap (λ (x : Bits). x .enabled) b in
       let l : status t j ≡ status s j = ap (λ (x : Bits). x .status) b in
@@ -145,7 +145,7 @@ module _ (j : ℕ) (s : State) (h : j < 16) (z : Sized s) (rests : stepping s j 
       let zu : Sized u = sized-request t j 0 (f .sized) in
       let pu : part j j u ≡ part j j s = part-request j j j 0 t ∙ e in
       pick-cases (Settled j s) (enabled t j)
-      (λ a. rw (unbound-rests _ (still-low (stepping t j) refl))
+      (λ a. rw (q .0)
       (pick-cases (Settled j s) (eqb (request t j) 2)
       (λ c. let two : request s j ≡ 2 = sym r ∙ eqb-true (request t j) 2 c in
       record {
@@ -158,19 +158,15 @@ module _ (j : ℕ) (s : State) (h : j < 16) (z : Sized s) (rests : stepping s j 
       })
       (λ c. let not-two : request s j ≢ 2 = λ x. eqb-false (request t j) 2 c (r ∙ x) in
       pick-cases (Settled j s) (eqb (request t j) 3)
-      (λ d. record { part-both = λ x. absurd (not-two x); status-both = λ x. absurd (not-two x); request-both = λ x. absurd (not-two x); part-not = λ x. pu; status-not = λ x. status-request t j 0 j ∙ l; request-off = λ x. absurd (not-both (sym o ∙ a) x) })
+      (λ d. absurd (q .1 (eqb-true (request t j) 3 d)))
       (λ d. record { part-both = λ x. absurd (not-two x); status-both = λ x. absurd (not-two x); request-both = λ x. absurd (not-two x); part-not = λ x. e; status-not = λ x. l; request-off = λ x. r }))))
       (λ a. record { part-both = λ x y. absurd (not-both (o ∙ y) a); status-both = λ x y. absurd (not-both (o ∙ y) a); request-both = λ x y. absurd (not-both (o ∙ y) a); part-not = λ x. e; status-not = λ x. l; request-off = λ x. r })
-    where
-      still-low : (b : Bool) → stepping t j ≡ b → stepping t j ≡ false
-      still-low true y = absurd (not-both (f .still j y) rests)
-      still-low false y = y
 
   -- a later service of another channel
   later-on : (i : ℕ) (t : State) → i < 16 → j ≢ i → Fades s t → Settled j s t → Settled j s (served i t)
   unfolding bits
   later-on i t l n f x =
-      let e : part j j (served i t) ≡ part j j t = part-served j j i n t l (f .sized) (λ q. absurd (n q)) (still-apart j s h z rests apart t f i) in
+      let e : part j j (served i t) ≡ part j j t = part-served j j i n t l (f .sized) (f .going) (λ q. absurd (n q)) (still-apart j s h z g rests apart t f i) in
       let b : bits (served i t) j ≡ bits t j = bits-served i j l h n t (f .sized) in
       let r : request (served i t) j ≡ request t j = ap (λ (y : Bits). y .request) b in
       let k : status (served i t) j ≡ status t j = ap (λ (y : Bits). y .status) b in
@@ -189,7 +185,7 @@ module _ (j : ℕ) (s : State) (h : j < 16) (z : Sized s) (rests : stepping s j 
 
   unserved-on : (i : ℕ) (t : State) → i < 16 → j ≢ i → Fades s t → Unserved t → Unserved (served i t)
   unserved-on i t l n f x =
-      (part-served j j i n t l (f .sized) (λ q. absurd (n q)) (still-apart j s h z rests apart t f i) ∙ x .0, bits-served i j l h n t (f .sized) ∙ x .1)
+      (part-served j j i n t l (f .sized) (f .going) (λ q. absurd (n q)) (still-apart j s h z g rests apart t f i) ∙ x .0, bits-served i j l h n t (f .sized) ∙ x .1)
 
   services : (n a : ℕ) → a + n ≤ 16 → (t : State) → Fades s t → a ≤ j → Unserved t → (a + n ≤ j → Unserved (each n a served t)) × (j < a + n → Settled j s (each n a served t))
   unfolding each
@@ -209,7 +205,6 @@ module _ (j : ℕ) (s : State) (h : j < 16) (z : Sized s) (rests : stepping s j 
   pub settled : Settled j s (tick s)
   unfolding tick clocked withTime part word pin channel
   settled =
-      let fc : Fades s (clocked s) = fades-clocked s z in
       let m : State = each 16 0 matched (clocked s) in
-      services 16 0 (omega arith) m (fades-each s 16 0 matched (omega arith) (fades-matched s) (clocked s) fc) (omega arith)
-      (unbound-matches j s h z rests apart 16 0 (omega arith) (clocked s) fc, bits-regs m s j (regs-each 16 0 matched regs-matched (clocked s))) .1 (omega arith)
+      services 16 0 (omega arith) m (fades-matches s z g) (omega arith)
+      (unbound-matches j s h z g rests apart 16 0 (omega arith) (clocked s) (fades-clocked s z g), bits-regs m s j (regs-each 16 0 matched regs-matched (clocked s))) .1 (omega arith)

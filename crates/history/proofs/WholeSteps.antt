@@ -121,11 +121,11 @@ module _ (c : ℕ) (s : State) (h : Held c s) (f : Fine s) where
 
   time : t .tcr1 ≡ later (s .tcr1) 1
   unfolding view viewIn groupIn look viewTicked
-  time = ap (λ (v : View). v .group .clock) (view-tick c s (h .sized) (h .seen)) ∙ tick-clock g
+  time = ap (λ (v : View). v .group .clock) (view-tick c s (h .sized) (f .going) (h .seen)) ∙ tick-clock g
 
   pub ticked : (view t c) .group ≡ group.tick g
   unfolding viewTicked
-  ticked = ap (λ (v : View). v .group) (view-tick c s (h .sized) (h .seen))
+  ticked = ap (λ (v : View). v .group) (view-tick c s (h .sized) (f .going) (h .seen))
 
   abbrev acted : Bool
   acted = actsAt ((channel s c) .phase) (later (s .tcr1) 1)
@@ -152,7 +152,7 @@ module _ (c : ℕ) (s : State) (h : Held c s) (f : Fine s) where
         faces = ap (λ (y : Motor). y .way) q;
         rates = ap (λ (y : Part). y .fourth) (parts c (omega arith) (h .alone .spans));
         aim = ap (λ (y : Motor). y .target) q;
-        span = fades-tick s (h .sized) .spans c;
+        span = fades-tick s (f .sized) (f .going) .spans c;
         phase = ⊎-elim (λ y. inl (ap (λ (z : Group). z .phase) e ∙ y ∙ ap (λ z. happened z ((channel s c) .phase)) (sym time) ∙ unserved-is ((channel s c) .phase) (t .tcr1))) (λ y. inr (ap (λ (z : Group). z .phase) e ∙ y .0, y .1, y .2)) p;
         channels = λ j a b. keeps j (parts j a b);
       }
@@ -194,7 +194,7 @@ module _ (c : ℕ) (s : State) (h : Held c s) (f : Fine s) where
         rate = subst (Pace (top s c) (placesAhead w c s) (nextRate s c)) (sym (ap (λ (x : Group). x .motor .rate) e)) ((fr w k refl) .pace);
         count = subst (CountMoves w (modCount s c)) (sym m) (count-moves w (modCount s c) (mod-small s c));
         aim = ap (λ (x : Group). x .motor .target) e;
-        span = fades-tick s (h .sized) .spans c;
+        span = fades-tick s (f .sized) (f .going) .spans c;
         match = match-is reference w k e;
         channels = λ j a b. channel-steps c s t f w k acted (dueAtOnce (group.clocked g) reference) j x m (ap (λ y. isPast y x) time) acted-then (parts j a b);
       }
@@ -243,7 +243,7 @@ module _ (c : ℕ) (s : State) (h : Held c s) (f : Fine s) where
   unfolding view viewIn groupIn look motorOf position target nextRate top group.clocked
   parts-turned j a b =
       part-tick c j s h a b
-      ∙ ap (λ (v : View). pick (v .group .enabled) (phasePart (v .group .phase) (v .group) (showPart acted (part c j s))) (showPart acted (part c j s))) (view-matches c s (h .sized) (h .seen))
+      ∙ ap (λ (v : View). pick (v .group .enabled) (phasePart (v .group .phase) (v .group) (showPart acted (part c j s))) (showPart acted (part c j s))) (view-matches c s (h .sized) (f .going) (h .seen))
 
   on-enabled : enabled s c ≡ true → Enabled c s
   unfolding enabled Enabled priorityOf cprOf

@@ -78,6 +78,10 @@ pub record Untouched (j : ℕ) (s t : State) : Type 0 where
 unfoldable pub Pending : ℕ → State → Type 0
 Pending j s = pending j s ≡ 2
 
+-- and a step request, 11, in the same places
+unfoldable pub StepPending : ℕ → State → Type 0
+StepPending j s = field 2 (reg s (7 + (1 - j / 8))) (2 * (j % 8)) ≡ 3
+
 -- what is claimed of every list of calls that is `Listed`
 pub record AlwaysOf (Listed : List Call → Type 0) : Type 0 where
   -- a bound group is set up and shows its pattern
@@ -88,6 +92,8 @@ pub record AlwaysOf (Listed : List Call → Type 0) : Type 0 where
   pub pins : (calls : List Call) (s : State) → StateIn Listed calls s → (j : ℕ) → j < 16 → pin (tick s) j ≢ pin s j → ByInitialise j s ⊎ ByMatch j s
   -- a position changes in a tick only while its group is under way, so only while each of its channels is set up
   pub moves : (calls : List Call) (s : State) → StateIn Listed calls s → (p : ℕ) → p < 16 → position (tick s) p ≢ position s p → (stepping s p ≡ true) × GroupShown p s
+  -- a step request is pending only of a group under way: at rest none is served, so no tick sets a motor going
+  pub under-way : (calls : List Call) (s : State) → StateIn Listed calls s → (p : ℕ) → p < 16 → StepPending p s → stepping s p ≡ true
   -- where a write sets a resting motor going, whatever else its word asks for, the state before it has the numbers of questions 2 to 9
   pub questions : (calls : List Call) (s : State) → StateIn Listed calls s → (c a v : ℕ) → SetsGoing c a v s → MayStep c s
   -- an initialise is done in the next tick in which its channel has a priority

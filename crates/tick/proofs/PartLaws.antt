@@ -155,11 +155,8 @@ same-way on r c s t e = rw e (sym (way-kept (pick on (leb 2 r) false) (eqb r 2) 
 
 in-turn : (on : Bool) (r : ℕ) (p : Phase) (c : ℕ) (s : State) → r < 4 → then on r p c (first on r c s) ≡ pick on (matchServed p c (pick (eqb r 2) (initialise c (withRequest s c 0)) (pick (eqb r 3) (stepRequest p c (withRequest s c 0)) s))) s
 unfolding isTested reference decided requestDone matchServed stepRequest
-in-turn false r Resting c s h = refl
-in-turn false r Requested c s h = refl
-in-turn false r (Armed time) c s h = refl
-in-turn false r (Matched captured) c s h = refl
-in-turn true r Resting c s h = asked r (initialise c (withRequest s c 0)) (withRequest s c 0) s h
+in-turn false r p c s h = refl
+in-turn true r Resting c s h = asked-to-step r (λ t. outcome t c (t .tcr1) (onRequest (motorOf t c))) (initialise c (withRequest s c 0)) (withRequest s c 0) s h
 in-turn true r Requested c s h = asked-to-step r (λ t. outcome t c (t .tcr1) (onRequest (motorOf t c))) (initialise c (withRequest s c 0)) (withRequest s c 0) s h
 in-turn true r (Armed time) c s h = asked r (initialise c (withRequest s c 0)) (withRequest s c 0) s h
 in-turn true r (Matched captured) c s h = ap (λ t. outcome t c captured (onMatch (motorOf t c))) (asked r (initialise c (withRequest s c 0)) (withRequest s c 0) s h)

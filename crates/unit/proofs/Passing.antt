@@ -51,7 +51,7 @@ time-request i s =
     (λ a. pick-cases (λ (x : State). x .tcr1 ≡ s .tcr1) (eqb (request s i) 3) (λ b. by ((channel s i) .phase)) (λ b. refl))
   where
     by : (p : Phase) → (stepRequest p i (withRequest s i 0)) .tcr1 ≡ s .tcr1
-    by Resting = refl
+    by Resting = time-outcome (withRequest s i 0) i _ _
     by Requested = time-outcome (withRequest s i 0) i _ _
     by (Armed t) = refl
     by (Matched t) = refl

@@ -8,8 +8,8 @@ use lib.ListN.{replicate}
 use Rattle.motor.specs.declared.Way.the-variants.{Right}
 use Rattle.motor.specs.declared.Phase.the-variants.{Armed, Matched}
 use Rattle.unit.specs.declared.State.{State}
-use Rattle.unit.specs.TheUnit.{resetState, cisr, withTime, reg, channel, withPhase, word, position, target}
-use Rattle.unit.specs.OneTick.{matched, afterTicks}
+use Rattle.unit.specs.TheUnit.{resetState, cisr, withTime, reg, withRequest, channel, withPhase, word, position, target}
+use Rattle.unit.specs.OneTick.{matched, tick, afterTicks}
 use Rattle.unit.specs.Gate.{advanceGood, gate}
 use Rattle.unit.specs.Calls.{pinWords, Call, Write, Advance, writeOf, run}
 use Rattle.unit.specs.Answers.{verdictNumber}
@@ -53,6 +53,8 @@ pub record Rows : Type 0 where
       × (shows (afterTicks 24 (goes 7 3)) ≡ 0x0 ∷ 3 ∷ 3073 ∷ 0x4218 ∷ 0x2341 ∷ 0x10 ∷ [])
   -- the pin word of each tick is its own
   pub row-pins : pinWords 2 (afterTicks 22 (goes 0 4)) ≡ 0x20 ∷ 0x0 ∷ []
+  -- a step request that no write has stored, of a group at rest: the test follows (N14)
+  pub row-stored : shows (tick (withRequest (run resetState (ready 0 4)) 4 3)) ≡ 0x10 ∷ 1 ∷ 258 ∷ 0xc210 ∷ 0x91a ∷ 0x0 ∷ []
   -- a match beyond the wrap of TCR1 is not due before it
   pub row-wrap : ((channel (matched 4 (withTime (withPhase resetState 4 Right (Armed 3)) 0xfffe)) 4) .phase ≡ Armed 3) × ((channel (matched 4 (withTime (withPhase resetState 4 Right (Armed 3)) 3)) 4) .phase ≡ Matched 3)
   -- a target put behind a fast motor: it slows down first
