@@ -1,9 +1,10 @@
 -- The changes of an advance, and what each command's answer makes of the states, the ticks and the bytes.
-use Prim.Native.Nat.{ℕ, suc, _+_, _%_, _^_, _≤_, _<_, min}
-use mathlib.Core.Path.{_≡_, refl, ap, _∙_}
+use Prim.Native.Nat.{ℕ, zero, suc, _+_, _%_, _^_, _≤_, _<_, min}
+use mathlib.Core.Path.{_≡_, refl, sym, ap, subst, _∙_}
 use mathlib.Core.Bool.{true, false}
 use mathlib.Core.List.{List}
 use native.Mathlib.Numerals.{add-one}
+use native.Mathlib.Omega.{arith}
 use lib.ListN.{length, length-replicate}
 use borrow.Author.Tests.{le-leb, lt-leb}
 use Rattle.unit.specs.declared.State.{State}
@@ -13,16 +14,21 @@ use Rattle.unit.specs.declared.Answer.the-variants.{Taken, Refused}
 use Rattle.unit.specs.declared.Answered.{Answered}
 use Rattle.unit.specs.Gate.{advanceGood}
 use Rattle.unit.specs.Calls.{readOf, writeOf, advanceOf}
+use Rattle.unit.specs.Answers.{readingNumber, answerNumber}
 use Rattle.unit.specs.OneTick.{tick, afterTicks}
+use Rattle.tpu.specs.Refusals.{Numbered, NumberedRead}
+use Rattle.tpu.proofs.Refused.{refusals}
 use Rattle.text.specs.Placing.{Wrote, written}
 use Rattle.text.proofs.PlacingLaws.{also, nothing, from-front}
 use Rattle.parse.specs.declared.Command.{Command}
 use Rattle.parse.specs.declared.Command.the-variants.{Write, Read, Ticks}
 use Rattle.parse.specs.Parsing.{commandOf}
+use Rattle.parse.proofs.LineLaws.{cut-same as same-command}
 use Rattle.script.specs.Replying.{room, stateBy, counted, ticksBy, stateAfter, ticksAfter}
 use Rattle.drawing.specs.declared.Drawn.{Drawn}
 use Rattle.wave.specs.Changes.{changes}
-use Rattle.drawing.specs.Drawing.{seenAt, tickChanges, refusalNote, noted, readNoted, drawingBy, seenIf, seenBy, drawing, seenAfter, Drew}
+use Rattle.drawing.specs.Drawing.{seenAt, tickChanges, refusalNote, noted, drawingBy, seenIf, seenBy, drawing, seenAfter, Drew}
+use Rattle.drawing.specs.Claims.{CutSame}
 
 -- ---- ticks
 
@@ -73,10 +79,16 @@ stopped s n h = rw (room-short n h)
 
 -- ---- each answer
 
+-- a refusal has a number above 0
+refused : (q : ℕ) (bytes : List ℕ) → 1 ≤ q → noted q bytes ≡ refusalNote q
+unfolding noted
+refused zero bytes h = absurd (omega arith)
+refused (suc q) bytes h = refl
+
 module _ (seen s : State) (ticks : ℕ) (out : List ℕ) where
   module _ (a v : ℕ) (x : Answered) (e : x ≡ writeOf s a v) where
     pub write-taken : x .answer ≡ Taken → Drew (Write a v) seen s ticks out (record { state = x .state; seen = seen; ticks = ticks; length = 0 }) out
-    unfolding stateBy ticksBy seenBy drawingBy noted
+    unfolding stateBy ticksBy seenBy drawingBy noted answerNumber
     write-taken t = record { state = ap (λ y. y .state) e; shown = refl; count = refl; wrote = rw (← e, t) (nothing out 0) }
 
     pub write-refused :
@@ -84,12 +96,15 @@ module _ (seen s : State) (ticks : ℕ) (out : List ℕ) where
         x .answer ≡ Refused q →
         Wrote out 0 (refusalNote q) place left →
         Drew (Write a v) seen s ticks out (record { state = x .state; seen = seen; ticks = ticks; length = place }) left
-    unfolding stateBy ticksBy seenBy drawingBy noted
-    write-refused q place left t w = record { state = ap (λ y. y .state) e; shown = refl; count = refl; wrote = rw (← e, t) w }
+    unfolding stateBy ticksBy seenBy drawingBy answerNumber
+    write-refused q place left t w =
+        let p = ap (λ (y : Answered). y .answer) (sym e) ∙ t in
+        let h = subst Numbered p (refusals .write s a v) .0 in
+        record { state = ap (λ y. y .state) e; shown = refl; count = refl; wrote = rw (p, refused q _ h) w }
 
   module _ (a : ℕ) (x : Reading) (e : x ≡ readOf s a) where
     pub read-word : (w : ℕ) → x ≡ Word w → Drew (Read a) seen s ticks out (record { state = s; seen = seen; ticks = ticks; length = 0 }) out
-    unfolding stateBy ticksBy seenBy drawingBy readNoted
+    unfolding stateBy ticksBy seenBy drawingBy noted readingNumber
     read-word w t = record { state = refl; shown = refl; count = refl; wrote = rw (← e, t) (nothing out 0) }
 
     pub read-refused :
@@ -97,8 +112,11 @@ module _ (seen s : State) (ticks : ℕ) (out : List ℕ) where
         x ≡ NoWord q →
         Wrote out 0 (refusalNote q) place left →
         Drew (Read a) seen s ticks out (record { state = s; seen = seen; ticks = ticks; length = place }) left
-    unfolding stateBy ticksBy seenBy drawingBy readNoted
-    read-refused q place left t w = record { state = refl; shown = refl; count = refl; wrote = rw (← e, t) w }
+    unfolding stateBy ticksBy seenBy drawingBy readingNumber
+    read-refused q place left t w =
+        let p = sym e ∙ t in
+        let h = subst NumberedRead p (refusals .read s a) .0 in
+        record { state = refl; shown = refl; count = refl; wrote = rw (p, refused q _ h) w }
 
   module _ (n place : ℕ) (left : List ℕ) where
     pub advance-taken :
@@ -110,7 +128,7 @@ module _ (seen s : State) (ticks : ℕ) (out : List ℕ) where
         now ≡ (ticks + n) % 2 ^ 64 →
         Wrote out 0 (tickChanges i seen s ticks) place left →
         Drew (Ticks n) seen s ticks out (record { state = next; seen = old; ticks = now; length = place }) left
-    unfolding stateBy ticksBy seenBy drawingBy noted counted seenIf
+    unfolding stateBy ticksBy seenBy drawingBy noted counted seenIf answerNumber
     advance-taken i now next old q h e o t w =
         let g = advanced s n h in
         record { state = rw (stateBy, g, ← q) e; shown = rw (g, ← q) o; count = rw g t; wrote = rw (g, ← q) w }
@@ -119,7 +137,7 @@ module _ (seen s : State) (ticks : ℕ) (out : List ℕ) where
         4096 < n →
         Wrote out 0 (refusalNote 10) place left →
         Drew (Ticks n) seen s ticks out (record { state = s; seen = seen; ticks = ticks; length = place }) left
-    unfolding stateBy ticksBy seenBy drawingBy noted counted seenIf
+    unfolding stateBy ticksBy seenBy drawingBy noted counted seenIf answerNumber
     advance-refused h w =
         let g = stopped s n h in
         record { state = rw (stateBy, g); shown = rw g; count = rw g; wrote = rw g w }
@@ -139,3 +157,9 @@ pub by-line :
 unfolding stateAfter ticksAfter seenAfter drawing
 by-line line out left seen s ticks c x r e q d =
     rw (← e, q) (d .state, d .shown, d .count, d .wrote .next ∙ from-front (drawingBy c seen s ticks) (length out), d .wrote .buffer)
+
+pub cut-same : CutSame
+unfolding seenAfter drawing
+cut-same k h seen s ticks line =
+    let e = same-command k h line in
+    (ap (λ c. seenBy c seen s) e, ap (λ c. drawingBy c seen s ticks) e)

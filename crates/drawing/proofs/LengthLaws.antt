@@ -6,12 +6,7 @@ use native.Mathlib.Omega.{arith}
 use lib.ListN.{length, length-append}
 use borrow.Author.Tests.{leb-true}
 use Rattle.unit.specs.declared.State.{State}
-use Rattle.unit.specs.declared.Reading.{Reading}
-use Rattle.unit.specs.declared.Reading.the-variants.{Word, Refused as NoWord}
-use Rattle.unit.specs.declared.Answer.{Answer}
-use Rattle.unit.specs.declared.Answer.the-variants.{Taken, Refused}
 use Rattle.unit.specs.Gate.{advanceGood}
-use Rattle.unit.specs.Calls.{readOf}
 use Rattle.unit.specs.OneTick.{afterTicks}
 use Rattle.words.proofs.ChoiceLaws.{and-left}
 use Rattle.text.specs.Ascii.{ascii}
@@ -22,7 +17,7 @@ use Rattle.parse.specs.Parsing.{commandOf}
 use Rattle.script.specs.Replying.{room}
 use Rattle.script.proofs.ReplyingLaws.{good}
 use Rattle.wave.proofs.LengthLaws.{short}
-use Rattle.drawing.specs.Drawing.{seenAt, tickChanges, refusalNote, noted, readNoted, drawingBy, drawing}
+use Rattle.drawing.specs.Drawing.{seenAt, tickChanges, refusalNote, noted, drawingBy, drawing}
 use Rattle.drawing.specs.Claims.{NoneLonger}
 
 ticks-short : (n : ℕ) (seen s : State) (ticks : ℕ) → length (tickChanges n seen s ticks) ≤ n * 413
@@ -36,24 +31,19 @@ note-short : (q : ℕ) → length (refusalNote q) ≤ 4096 * 413
 unfolding refusalNote ascii
 note-short q = simp length-append (omega (arith, decimal-short .1 q))
 
-noted-short : (x : Answer) (bytes : List ℕ) → (x ≡ Taken → length bytes ≤ 4096 * 413) → length (noted x bytes) ≤ 4096 * 413
+noted-short : (q : ℕ) (bytes : List ℕ) → (q ≡ 0 → length bytes ≤ 4096 * 413) → length (noted q bytes) ≤ 4096 * 413
 unfolding noted
-noted-short Taken bytes f = f refl
-noted-short (Refused q) bytes f = note-short q
-
-read-short : (x : Reading) → length (readNoted x) ≤ 4096 * 413
-unfolding readNoted
-read-short (Word w) = omega arith
-read-short (NoWord q) = note-short q
+noted-short zero bytes f = f refl
+noted-short (suc q) bytes f = note-short (suc q)
 
 by-command : (c : Command) (seen s : State) (ticks : ℕ) → length (drawingBy c seen s ticks) ≤ 4096 * 413
 unfolding drawingBy advanceGood ascii
 by-command (Write a v) seen s ticks = noted-short _ _ (λ t. omega arith)
-by-command (Read a) seen s ticks = read-short (readOf s a)
+by-command (Read a) seen s ticks = noted-short _ _ (λ t. omega arith)
 by-command (Ticks n) seen s ticks =
     noted-short _ _
     (λ t.
-    let h : n ≤ 4096 = leb-true n 4096 (and-left _ _ (good s n room _ refl t)) in
+    let h : n ≤ 4096 = leb-true n 4096 (and-left _ _ (good s n room t)) in
     omega (arith, ticks-short n seen s ticks))
 by-command Other seen s ticks = omega arith
 

@@ -3,11 +3,10 @@ use Prim.Native.Nat.{ℕ, zero, suc, _+_, _%_, _^_}
 use mathlib.Core.Path.{_≡_}
 use mathlib.Core.List.{List, [], _++_}
 use Rattle.unit.specs.declared.State.{State}
-use Rattle.unit.specs.declared.Reading.{Reading}
-use Rattle.unit.specs.declared.Reading.the-variants.{Word, Refused as NoWord}
 use Rattle.unit.specs.declared.Answer.{Answer}
 use Rattle.unit.specs.declared.Answer.the-variants.{Taken, Refused}
 use Rattle.unit.specs.Calls.{readOf, writeOf, advanceOf}
+use Rattle.unit.specs.Answers.{readingNumber, answerNumber}
 use Rattle.unit.specs.OneTick.{afterTicks}
 use Rattle.text.specs.Ascii.{ascii}
 use Rattle.text.specs.Placing.{Wrote}
@@ -38,23 +37,18 @@ tickChanges (suc i) seen s ticks =
 unfoldable pub refusalNote : ℕ → List ℕ
 refusalNote q = ascii "$comment N " ++ (decimal q ++ ascii " $end\n")
 
--- what a write or an advance draws, by its answer
-unfoldable pub noted : Answer → List ℕ → List ℕ
-noted Taken bytes = bytes
-noted (Refused q) bytes = refusalNote q
-
--- a read draws nothing unless it is refused
-unfoldable pub readNoted : Reading → List ℕ
-readNoted (Word w) = []
-readNoted (NoWord q) = refusalNote q
+-- by the number of an answer: what a taken call draws, or that comment
+unfoldable pub noted : ℕ → List ℕ → List ℕ
+noted zero bytes = bytes
+noted (suc q) bytes = refusalNote (suc q)
 
 -- ---- by command
 
 -- the bytes
 unfoldable pub drawingBy : Command → State → State → ℕ → List ℕ
-drawingBy (Write a v) seen s ticks = noted ((writeOf s a v) .answer) []
-drawingBy (Read a) seen s ticks = readNoted (readOf s a)
-drawingBy (Ticks n) seen s ticks = noted ((advanceOf s n room) .answer) (tickChanges n seen s ticks)
+drawingBy (Write a v) seen s ticks = noted (answerNumber ((writeOf s a v) .answer)) []
+drawingBy (Read a) seen s ticks = noted (readingNumber (readOf s a)) []
+drawingBy (Ticks n) seen s ticks = noted (answerNumber ((advanceOf s n room) .answer)) (tickChanges n seen s ticks)
 drawingBy Other seen s ticks = ascii "$comment E $end\n"
 
 -- a refused advance draws no state

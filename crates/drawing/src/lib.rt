@@ -19,7 +19,7 @@ pub struct Drawn {
 }
 
 // Nothing that a line draws is longer: 4,096 ticks of 413 bytes.
-pub const MAX_DRAWN: usize = 4096 * 413;
+pub const MAX_DRAWN: usize = State::MAX_TICKS as usize * 413;
 
 // What a line, without its end, draws, put at the front of `out`: as much of it as fits.
 pub fn draw(seen: State, state: State, ticks: u64, line: &[u8], out: &mut [u8]) -> Drawn

@@ -15,7 +15,7 @@ use words::rotation;
 pub fn is_stepper(s: State, c: u16) -> bool
     ensures { λ r. ⌜ r ≡ isStepper s c ⌝ }
 {
-    registers::function(s, c) == 13
+    registers::function(s, c) == State::STEPPER
 }
 
 // Question 4: CHANNEL_CONTROL forces the pin to the level that PIN_CONTROL has first.
@@ -54,13 +54,13 @@ pub fn span_good(s: State, c: u16) -> bool
     if n < 1 {
         return false;
     }
-    if 14 < n {
+    if State::MAX_RATE < n {
         return false;
     }
     if l <= c {
         return false;
     }
-    l <= c + 7
+    l <= c + State::MAX_REACH
 }
 
 // What question 6 asks of each channel of a group.
@@ -134,12 +134,12 @@ pub fn ramp_good(cntl0: u16, cntl1: u16, n: u16) -> bool
     if step::period(cntl0, cntl1, n) < 1 {
         return false;
     }
-    step::period(cntl0, cntl1, 1) <= 0x7fff
+    step::period(cntl0, cntl1, 1) <= State::MAX_PERIOD
 }
 
 // Question 9.
 pub fn target_good(s: State, c: u16, t: u16) -> bool
     ensures { λ r. ⌜ r ≡ targetGood s c t ⌝ }
 {
-    t <= 0xffff - parameters::top(s, c)
+    t <= State::LAST_POSITION - parameters::top(s, c)
 }

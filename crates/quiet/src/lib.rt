@@ -14,6 +14,9 @@ use unit::State;
 use words::clock;
 use words::field;
 
+// No advance goes further.
+const MAX_WAIT: u16 = State::MAX_TICKS as u16;
+
 // Before the tick in which a match set for `time` is due.
 fn until_due(time: u16, now: u16) -> u16
     ensures { λ r. ⌜ r ≡ untilDue time now ⌝ }
@@ -33,10 +36,10 @@ fn waits(p: Phase, now: u16) -> u16
     ensures { λ r. ⌜ r ≡ waits p now ⌝ }
 {
     match p {
-        Phase::Resting => 4096,
-        Phase::Requested => 4096,
+        Phase::Resting => MAX_WAIT,
+        Phase::Requested => MAX_WAIT,
         Phase::Armed(time) => until_due(time, now),
-        Phase::Matched(_) => 4096,
+        Phase::Matched(_) => MAX_WAIT,
     }
 }
 
@@ -62,7 +65,7 @@ fn lesser(a: u16, b: u16) -> u16
 pub fn quiet_ticks(s: State, room: u16) -> u16
     ensures { λ r. ⌜ r ≡ min (quietBelow 16 s) room ⌝ }
 {
-    let mut q: u16 = 4096;
+    let mut q: u16 = MAX_WAIT;
     for c in 0..16 {
         let x = s.channels[c as usize];
         let phase = x.phase;

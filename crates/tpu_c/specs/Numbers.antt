@@ -4,24 +4,16 @@ use Prim.Native.Nat.{ℕ, _+_, _*_}
 use mathlib.Core.List.{List}
 use Rattle.words.specs.Choice.{pick}
 use Rattle.words.specs.Field.{bitValue}
-use Rattle.unit.specs.declared.Reading.{Reading}
-use Rattle.unit.specs.declared.Reading.the-variants.{Word, Refused as NoWord}
-use Rattle.unit.specs.declared.Answer.{Answer}
-use Rattle.unit.specs.declared.Answer.the-variants.{Taken, Refused}
 use Rattle.unit.specs.declared.Answered.{Answered}
 use Rattle.unit.specs.declared.State.{State}
 use Rattle.unit.specs.TheUnit.{interruptLine}
 use Rattle.unit.specs.Calls.{readOf, writeOf, advanceOf, lentAfter, isTaken}
+use Rattle.unit.specs.Answers.{readingNumber, readingWord, answerNumber}
 use Rattle.pack.specs.Packing.{packed, isWhole, unpacked}
 
 -- the answer where the lent words are not as many as hold a state; no question has this number
 abbrev pub wrongLength : ℕ
 wrongLength = 100
-
--- 0: taken; else the question that said no
-unfoldable pub numberOf : Answer → ℕ
-numberOf Taken = 0
-numberOf (Refused n) = n
 
 -- the lent words after a call on the state that they hold: those of its next state where it is taken, else as they were
 unfoldable pub wordsAfter : Answered → List ℕ → List ℕ
@@ -34,20 +26,11 @@ resetAnswer s = pick (isWhole s) 0 wrongLength
 
 -- ---- read
 
-unfoldable pub readNumber : Reading → ℕ
-readNumber (Word w) = 0
-readNumber (NoWord n) = n
-
--- a refused read has no word: 0 stands there
-unfoldable pub wordRead : Reading → ℕ
-wordRead (Word w) = w
-wordRead (NoWord n) = 0
-
 unfoldable pub readAnswer : List ℕ → ℕ → ℕ
-readAnswer s a = pick (isWhole s) (readNumber (readOf (unpacked s) a)) wrongLength
+readAnswer s a = pick (isWhole s) (readingNumber (readOf (unpacked s) a)) wrongLength
 
 unfoldable pub readWord : List ℕ → ℕ → ℕ
-readWord s a = pick (isWhole s) (wordRead (readOf (unpacked s) a)) 0
+readWord s a = pick (isWhole s) (readingWord (readOf (unpacked s) a)) 0
 
 -- the answer and a word, in the high and the low half of one number
 unfoldable pub joined : ℕ → ℕ → ℕ
@@ -56,7 +39,7 @@ joined answer w = answer * 65536 + w
 -- ---- write
 
 unfoldable pub writeAnswer : List ℕ → ℕ → ℕ → ℕ
-writeAnswer s a v = pick (isWhole s) (numberOf ((writeOf (unpacked s) a v) .answer)) wrongLength
+writeAnswer s a v = pick (isWhole s) (answerNumber ((writeOf (unpacked s) a v) .answer)) wrongLength
 
 unfoldable pub writeWords : List ℕ → ℕ → ℕ → List ℕ
 writeWords s a v = pick (isWhole s) (wordsAfter (writeOf (unpacked s) a v) s) s
@@ -68,7 +51,7 @@ writeState s a v = pick (isWhole s) ((writeOf (unpacked s) a v) .state) (unpacke
 -- ---- advance
 
 unfoldable pub advanceAnswer : List ℕ → ℕ → List ℕ → ℕ
-advanceAnswer s n pins = pick (isWhole s) (numberOf ((advanceOf (unpacked s) n pins) .answer)) wrongLength
+advanceAnswer s n pins = pick (isWhole s) (answerNumber ((advanceOf (unpacked s) n pins) .answer)) wrongLength
 
 unfoldable pub advanceWords : List ℕ → ℕ → List ℕ → List ℕ
 advanceWords s n pins = pick (isWhole s) (wordsAfter (advanceOf (unpacked s) n pins) s) s

@@ -6,9 +6,10 @@ ghost use lib.ListN.{length};
 ghost use Rattle.words.specs.Field.{bitValue};
 ghost use Rattle.unit.specs.TheUnit.{resetState};
 ghost use Rattle.unit.specs.Calls.{isTaken};
+ghost use Rattle.unit.specs.Answers.{readingNumber, readingWord, answerNumber};
+ghost use Rattle.tpu.specs.Refusals.{Refusals};
 ghost use Rattle.pack.specs.Packing.{stateWords, packed, zeros, laid, unpacked};
-ghost use Rattle.tpu_c.specs.Refusals.{Refusals};
-ghost use Rattle.tpu_c.specs.Numbers.{numberOf, wordsAfter, resetAnswer, readNumber, wordRead, readAnswer, readWord, joined, writeAnswer, writeWords, writeState, advanceAnswer, advanceWords, advanceState, advancePins, lineAnswer};
+ghost use Rattle.tpu_c.specs.Numbers.{wordsAfter, resetAnswer, readAnswer, readWord, joined, writeAnswer, writeWords, writeState, advanceAnswer, advanceWords, advanceState, advancePins, lineAnswer};
 use unit::Answer;
 use unit::Answered;
 use unit::Reading;
@@ -39,7 +40,7 @@ pub extern "C" fn tpu_sm_reset(state: &mut [u16]) -> u16
 }
 
 fn both_halves(r: Reading) -> u32
-    ensures { λ n. ⌜ (n ≡ joined (readNumber r) (wordRead r)) × (wordRead r < 65536) ⌝ }
+    ensures { λ n. ⌜ (n ≡ joined (readingNumber r) (readingWord r)) × (readingWord r < 65536) ⌝ }
 {
     match r {
         Reading::Word(w) => w as u32,
@@ -62,7 +63,7 @@ pub extern "C" fn tpu_sm_read(state: &[u16], address: u16) -> u32
 // The state of a taken call goes to the lent words; a refused one leaves them, whatever they are.
 fn finish(r: Answered, state: &mut [u16]) -> u16
     requires { ⌜ length (now state) ≡ 174 ⌝ }
-    ensures { λ n. ⌜ (n ≡ numberOf (r .answer)) × (now (state .exit) ≡ wordsAfter r (now (state .entry)))
+    ensures { λ n. ⌜ (n ≡ answerNumber (r .answer)) × (now (state .exit) ≡ wordsAfter r (now (state .entry)))
         × (isTaken (r .answer) ≡ true → unpacked (packed (r .state)) ≡ r .state) ⌝ }
 {
     let answer = r.answer;

@@ -22,7 +22,7 @@ struct Session {
     open: bool,
 }
 
-// Of a line 16 bytes are kept: no form has as many, so what follows them does not matter.
+// Of a line 16 bytes are kept: no form has as many, so what follows them does not matter (`CutSame` of drawing).
 fn main() {
     let mut input = [0u8; 65536];
     let mut line = [0u8; 16];

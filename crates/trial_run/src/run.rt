@@ -105,11 +105,11 @@ pub fn after(start: Run, ticks: u16) -> Run {
     r
 }
 
-// To the next step or the arrival. No period is longer than $7FFF.
+// To the next step or the arrival, within MAX_PERIOD ticks: no period is longer.
 pub fn onward(start: Run) -> Run {
     let from = position(start);
     let mut r = start;
-    let mut left: u16 = 0x7FFF;
+    let mut left: u16 = State::MAX_PERIOD;
     while left > 0 {
         r = ticked(r);
         if position(r) != from || rests(r) {

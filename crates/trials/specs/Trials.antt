@@ -10,12 +10,11 @@ use Rattle.words.specs.Field.{bitOf}
 use Rattle.words.specs.Rotation.{rotatedRight}
 use Rattle.motor.specs.Stepping.{period}
 use Rattle.unit.specs.declared.State.{State}
-use Rattle.unit.specs.declared.Verdict.{Verdict}
-use Rattle.unit.specs.declared.Verdict.the-variants.{Taken, Refused}
 use Rattle.unit.specs.TheUnit.{resetState, position, nextRate, status, isBound}
 use Rattle.unit.specs.OneTick.{tick}
 use Rattle.unit.specs.Gate.{gate}
 use Rattle.unit.specs.Calls.{writeOf, Call, Write, Advance, run}
+use Rattle.unit.specs.Answers.{verdictNumber}
 
 -- a motor on channels 4 and 5 at rest at a position, ready to be asked: N, STEP_CNTL0, STEP_CNTL1, position and target
 unfoldable pub ready : ℕ → ℕ → ℕ → ℕ → ℕ → List Call
@@ -32,10 +31,6 @@ rests n c0 c1 here there = run resetState (ready n c0 c1 here there)
 -- its step request, taken
 unfoldable pub goes : ℕ → ℕ → State
 goes here there = (writeOf (rests 3 20 440 here there) 0xe1a 0x0300) .state
-
-unfoldable pub numberOf : Verdict → ℕ
-numberOf (Taken d) = 0
-numberOf (Refused n) = n
 
 -- the ticks of the steps, and last that of the arrival, which sets the status bit; k is the next tick
 unfoldable pub stepTicks : ℕ → ℕ → State → List ℕ
@@ -88,7 +83,7 @@ same false b = not b
 
 unfoldable pub holds : Trial → Bool
 holds (Period c0 c1 r p) = eqb (period c0 c1 r) p
-holds (Request n c0 c1 k) = eqb (numberOf (gate (rests n c0 c1 0 0) 0xe1a 0x0300)) k
+holds (Request n c0 c1 k) = eqb (verdictNumber (gate (rests n c0 c1 0 0) 0xe1a 0x0300)) k
 holds (Steps here there l) = sameList (stepTicks 4000 1 (goes here there)) l
 holds (Back l) =
     let s = ticked 781 (goes 0 10) in
@@ -99,7 +94,7 @@ holds (Due now time b) = same (due now time) b
 unfoldable pub table : List Trial
 table =
     Period 20 440 1 400 ∷ Period 20 440 10 220 ∷ Period 77 3487 1 3333 ∷ Period 77 3487 14 2332
-    ∷ Request 3 20 81 0 ∷ Request 3 20 80 8 ∷ Request 3 0 32767 0 ∷ Request 3 0 32768 8
+    ∷ Period 20 81 3 1 ∷ Request 3 20 81 0 ∷ Request 3 20 80 8 ∷ Request 3 0 32767 0 ∷ Request 3 0 32768 8
     ∷ Steps 0 10 (1 ∷ 401 ∷ 781 ∷ 1141 ∷ 1501 ∷ 1861 ∷ 2221 ∷ 2581 ∷ 2941 ∷ 3321 ∷ 3721 ∷ [])
     ∷ Steps 0 3 (1 ∷ 401 ∷ 801 ∷ 1201 ∷ []) ∷ Steps 0 2 (1 ∷ 401 ∷ 801 ∷ []) ∷ Steps 0 0 (1 ∷ [])
     ∷ Steps 3 0 (1 ∷ 401 ∷ 801 ∷ 1201 ∷ []) ∷ Steps 2 0 (1 ∷ 401 ∷ 801 ∷ [])

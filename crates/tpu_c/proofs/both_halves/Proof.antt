@@ -1,7 +1,8 @@
 use native.Mathlib.Omega.{arith}
 use mir.Val.{Fits}
 use mir.Syntax.{w16}
-use Rattle.tpu_c.specs.Numbers.{readNumber, wordRead, joined}
+use Rattle.unit.specs.Answers.{readingNumber, readingWord}
+use Rattle.tpu_c.specs.Numbers.{joined}
 use borrow.Author.Needs.{needs}
 use Rattle.tpu_c.proofs.both_halves.Statement.{statement}
 use Rattle.tpu_c.proofs.both_halves.Tie as tie
@@ -22,14 +23,14 @@ mul-result : tie.Need-mul-result
 mul-result c = search needs
 
 returns : tie.Need-returns
-unfolding readNumber wordRead joined
+unfolding readingNumber readingWord joined
 returns c =
     let e = c .before .r .given .1 in
     let f : Fits w16 (c .before .r .given .0 .0) = search needs in
     (rw (e) (omega arith), rw (e) (omega (arith, f)))
 
 returns-2 : tie.Need-returns-2
-unfolding readNumber wordRead joined
+unfolding readingNumber readingWord joined
 returns-2 c =
     let e = c .before .r2 .given .1 in
     (rw (e) (omega arith), rw (e) (omega arith))

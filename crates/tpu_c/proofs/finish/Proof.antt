@@ -1,7 +1,8 @@
 use mathlib.Core.Path.{refl, _∙_}
 use Rattle.words.proofs.ChoiceLaws.{not-both}
 use Rattle.unit.specs.Calls.{isTaken}
-use Rattle.tpu_c.specs.Numbers.{numberOf, wordsAfter}
+use Rattle.unit.specs.Answers.{answerNumber}
+use Rattle.tpu_c.specs.Numbers.{wordsAfter}
 use Rattle.tpu_c.proofs.Held.{laid-whole}
 use borrow.Author.Needs.{needs}
 use Rattle.tpu_c.proofs.finish.Statement.{statement}
@@ -23,7 +24,7 @@ same-length : tie.Need-same-length
 same-length c = search needs
 
 returns : tie.Need-returns
-unfolding numberOf wordsAfter isTaken
+unfolding answerNumber wordsAfter isTaken
 returns c =
     let told = c .before .before .before .before in
     let e = told .enum-told .given .1 in
@@ -31,7 +32,7 @@ returns c =
     (rw (e) refl, rw (e) (d .0 ∙ laid-whole _ _ (told .before .before .before .pre)), λ t. d .1)
 
 returns-2 : tie.Need-returns-2
-unfolding numberOf wordsAfter isTaken
+unfolding answerNumber wordsAfter isTaken
 returns-2 c =
     let e = c .before .answer .given .1 in
     (rw (e) refl, rw (e) refl, λ t. absurd (not-both t (rw (e) refl)))

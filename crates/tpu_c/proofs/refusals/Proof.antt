@@ -1,4 +1,4 @@
-use Rattle.tpu_c.proofs.Refused.{refusals}
+use Rattle.tpu.proofs.Refused.{refusals}
 use Rattle.tpu_c.proofs.refusals.Statement.{statement}
 use Rattle.tpu_c.proofs.refusals.Tie as tie
 

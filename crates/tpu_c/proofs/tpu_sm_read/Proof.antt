@@ -35,7 +35,7 @@ unfolding readAnswer readWord isWhole
 returns-2 c =
     let u = c .before .before in
     let e = eq-eqb _ 174 (u .before .if1 .left) in
-    let r = c .before .read .ensures ∙ ap (λ (x : State). readOf x (u .before .before .before .args .address)) (u .unpack .ensures) in
+    let r = c .before .read .ensures .0 ∙ ap (λ (x : State). readOf x (u .before .before .before .args .address)) (u .unpack .ensures) in
     (rw (e, ← r) (c .both-halves .ensures .0), rw (e, ← r) (c .both-halves .ensures .1))
 
 pub tpu-sm-read-spec : {M : Type 1} → statement M

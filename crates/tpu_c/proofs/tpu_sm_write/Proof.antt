@@ -35,7 +35,7 @@ returns-2 c =
     let u = w .before in
     let given = u .before .before .before .before .args in
     let e = eq-eqb _ 174 (u .before .before .if1 .left) in
-    let r = w .write .ensures ∙ ap (λ (x : State). writeOf x (given .address) (given .value)) (u .unpack .ensures) in
+    let r = w .write .ensures .0 ∙ ap (λ (x : State). writeOf x (given .address) (given .value)) (u .unpack .ensures) in
     let last = f .finish .ensures .1 in
     (rw (e, ← r) (f .finish .ensures .0), rw (e, ← r) last, rw (e, last) (held-by _ _ _ r (f .finish .ensures .2) (write-keeps _ _ _)))
 

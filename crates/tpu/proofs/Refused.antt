@@ -19,7 +19,7 @@ use Rattle.unit.specs.declared.Place.the-variants.{AtRegister, AtWord, Nowhere}
 use Rattle.unit.specs.TheUnit.{all, cisr, request, exists, top, target, cntl0, cntl1, stepping}
 use Rattle.unit.specs.Gate.{place, Reads, Writes, inList, isFree, isStepper, mayInitialise, spanGood, groupReady, patternGood, rampGood, targetGood, advanceGood, Asked, Yes, No, askInitialise, askStep, askChannel, andThen, askChannels, verdictOf, keepsOrFree, askRegister, askWord, askPlace, gate}
 use Rattle.unit.specs.Calls.{answeredBy, readOf, writeOf, advanceOf, wordAt}
-use Rattle.tpu_c.specs.Refusals.{Question, Numbered, NumberedRead, Refusals}
+use Rattle.tpu.specs.Refusals.{Question, Numbered, NumberedRead, Refusals}
 
 -- ---- requests
 
