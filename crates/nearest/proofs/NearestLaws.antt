@@ -28,6 +28,13 @@ in-count j k = go (leb j 0x7fff)
     go true e = cc
     go false e = no-count k e
 
+in-range : (j k : ℕ) → inCount j ≡ Whole k → k ≤ 0x7fff
+in-range j k = go (leb j 0x7fff) refl
+  where
+    go : (b : Bool) → leb j 0x7fff ≡ b → pick b (Whole j) Outside ≡ Whole k → k ≤ 0x7fff
+    go true t e = let i : j ≡ k = cc in omega (arith, leb-true j 0x7fff t)
+    go false t e = no-count k e
+
 -- ---- from zero up
 
 within : (m : ℕ) (e : ℤ) (k : ℕ) → countOf (fin false m e) ≡ Whole k → (2 * k * down e ≤ 2 * (m * up e) + down e) × (2 * (m * up e) + down e < 2 * (k + 1) * down e)
@@ -75,6 +82,13 @@ under m e = go (leb (2 * (m * up e)) (down e))
     go true = refl
     go false = refl
 
+up-to : (x : Float) (k : ℕ) → countOf x ≡ Whole k → k ≤ 0x7fff
+unfolding countOf
+up-to nan k h = no-count k h
+up-to (inf s) k h = no-count k h
+up-to (fin false m e) k h = in-range (halfUp (m * up e) (down e)) k h
+up-to (fin true m e) k h = omega (arith, below m e k h .0)
+
 none : (isOutside (countOf nan) ≡ true) × ((s : Bool) → isOutside (countOf (inf s)) ≡ true)
 unfolding countOf
 none = (refl, λ s. refl)
@@ -96,4 +110,4 @@ ordered (fin false m e) (fin false n d) p q X Y l a b =
     omega arith
 
 pub nearest-whole : Nearest
-nearest-whole = record { within = within; far = far; below = below; under = under; none = none; ordered = ordered }
+nearest-whole = record { within = within; up-to = up-to; far = far; below = below; under = under; none = none; ordered = ordered }

@@ -17,7 +17,8 @@ isOutside Outside = true
 pub record Nearest : Type 0 where
   -- a value with the count k lies from k - 1/2 on, and below k + 1/2
   pub within : (m : ℕ) (e : ℤ) (k : ℕ) → countOf (fin false m e) ≡ Whole k → (2 * k * down e ≤ 2 * (m * up e) + down e) × (2 * (m * up e) + down e < 2 * (k + 1) * down e)
-  -- it is outside exactly from $7FFF + 1/2 on
+  -- a count is at most $7FFF, and a value is outside exactly from $7FFF + 1/2 on
+  pub up-to : (x : Float) (k : ℕ) → countOf x ≡ Whole k → k ≤ 0x7fff
   pub far : (m : ℕ) (e : ℤ) → isOutside (countOf (fin false m e)) ≡ leb (65535 * down e) (2 * (m * up e))
   -- below zero only 0 is left, exactly down to -1/2
   pub below : (m : ℕ) (e : ℤ) (k : ℕ) → countOf (fin true m e) ≡ Whole k → (k ≡ 0) × (2 * (m * up e) ≤ down e)

@@ -19,6 +19,19 @@ use Rattle.ramp.specs.declared.Counts.the-variants.{Taken, Refused}
 abbrev pub refused : Counts
 refused = Refused 11
 
+-- an answer in numbers: that of the refusal, 0 where the ramp is taken, and the two words, 0 where there are none
+abbrev pub numberOf : Counts → ℕ
+numberOf (Taken cntl0 cntl1) = 0
+numberOf (Refused number) = number
+
+abbrev pub cntl0Of : Counts → ℕ
+cntl0Of (Taken cntl0 cntl1) = cntl0
+cntl0Of (Refused number) = 0
+
+abbrev pub cntl1Of : Counts → ℕ
+cntl1Of (Taken cntl0 cntl1) = cntl1
+cntl1Of (Refused number) = 0
+
 -- ---- the two words
 
 -- STEP_CNTL0 for speeds: the fall of the periods from rate 1 to rate n, shared out over the n - 1 rates between; 0 for n = 1

@@ -2,7 +2,9 @@
 ghost use mathlib.Core.Path.{_≡_};
 ghost use mathlib.Core.Bool.{true};
 ghost use Rattle.sheet.specs.Numbers.{isPositive};
-ghost use Rattle.ramp.specs.Sheet.{periodsOf, speedsOf, countsOf};
+ghost use Rattle.words.specs.Choice.{pick};
+ghost use Rattle.unit.specs.Gate.{rampGood};
+ghost use Rattle.ramp.specs.Sheet.{numberOf, cntl0Of, cntl1Of, periodsOf, speedsOf, countsOf};
 use crate::controls::ends;
 use crate::controls::steps;
 
@@ -25,9 +27,9 @@ pub enum Counts {
 // The number of the refusal.
 const REFUSAL: u8 = 11;
 
-// The tick length is in milliseconds, n is STEP_RATE_CNT.
+// The tick length is in milliseconds, n is STEP_RATE_CNT. The number is 0 where question 8 takes the words that are answered, else 11.
 pub fn from_sheet(ramp: Ramp, tick: f64, n: u8) -> Counts
-    ensures { λ r. ⌜ r ≡ countsOf ramp tick n ⌝ }
+    ensures { λ r. ⌜ (r ≡ countsOf ramp tick n) × (numberOf r ≡ pick (rampGood (cntl0Of r) (cntl1Of r) n) 0 11) ⌝ }
 {
     if !sheet::is_rate_count(n) {
         return Counts::Refused(REFUSAL);
@@ -41,17 +43,17 @@ pub fn from_sheet(ramp: Ramp, tick: f64, n: u8) -> Counts
     }
 }
 
-fn periods(slow: f64, difference: f64, tick: f64, n: u8) -> Counts
-    ensures { λ r. ⌜ r ≡ periodsOf slow difference tick n ⌝ }
+fn periods(slowest: f64, difference: f64, tick: f64, n: u8) -> Counts
+    ensures { λ r. ⌜ r ≡ periodsOf slowest difference tick n ⌝ }
 {
-    if !sheet::is_positive(slow) {
+    if !sheet::is_positive(slowest) {
         return Counts::Refused(REFUSAL);
     }
     if !sheet::is_difference(difference) {
         return Counts::Refused(REFUSAL);
     }
     steps(
-        sheet::period_count(slow, tick),
+        sheet::period_count(slowest, tick),
         sheet::period_count(difference, tick),
         n,
     )

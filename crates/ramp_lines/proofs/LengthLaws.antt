@@ -1,17 +1,15 @@
 -- No reply is longer than MAX_REPLY.
 use Prim.Native.Nat.{ℕ, zero, suc, _+_, _*_, _≤_}
-use mathlib.Core.Bool.{true}
 use mathlib.Core.Path.{_≡_, refl}
 use native.Mathlib.Omega.{arith}
-use borrow.Author.Tests.{leb-true}
-use lib.Dec.{leb}
+use lib.Ieee.{Float}
 use lib.ListN.{length, length-append}
-use Rattle.words.proofs.ChoiceLaws.{and-right}
 use Rattle.motor.specs.Stepping.{period}
 use Rattle.text.specs.Printing.{hexWord}
-use Rattle.sheet.specs.Numbers.{isRateCount}
-use Rattle.ramp.specs.Claims.{Good}
-use Rattle.ramp.proofs.TakenLaws.{ramps}
+use Rattle.ramp.specs.declared.Ramp.{Ramp}
+use Rattle.ramp.specs.declared.Ramp.the-variants.{Periods, Speeds}
+use Rattle.ramp.specs.Claims.{MayRun}
+use Rattle.ramp.proofs.RampLaws.{ramps}
 use Rattle.ramp.specs.declared.Counts.{Counts}
 use Rattle.ramp.specs.declared.Counts.the-variants.{Taken, Refused}
 use Rattle.ramp_lines.specs.declared.line.Request.{Request}
@@ -33,22 +31,22 @@ periods-short (suc n) cntl0 cntl1 h =
     let p = period-le cntl0 cntl1 (suc n) in
     rw length-append (omega (arith, periods-short n cntl0 cntl1 h, decimal-short .0 4 (period cntl0 cntl1 (suc n)) (omega arith)))
 
--- where a ramp is taken, N is at most 14
-few : (n : ℕ) → isRateCount n ≡ true → n ≤ 14
-unfolding isRateCount
-few n e = leb-true n 14 (and-right (leb 1 n) (leb n 14) e)
+-- where a ramp is taken, N is at most 14 and STEP_CNTL1 fits its word
+in-range : (ramp : Ramp) (tick : Float) (n cntl0 cntl1 : ℕ) → MayRun ramp tick n cntl0 cntl1 → (n ≤ 14) × (cntl1 ≤ 0xffff)
+in-range (Periods slow difference) tick n cntl0 cntl1 r = (r .words .rates .1, r .words .word)
+in-range (Speeds slow fast) tick n cntl0 cntl1 r = (r .words .rates .1, r .words .word)
 
-answer-short : (letter n : ℕ) (x : Counts) → ((cntl0 cntl1 : ℕ) → x ≡ Taken cntl0 cntl1 → Good n cntl0 cntl1) → length (answerBy letter n x) ≤ 12 + 14 * 6
+answer-short : (letter n : ℕ) (x : Counts) → ((cntl0 cntl1 : ℕ) → x ≡ Taken cntl0 cntl1 → (n ≤ 14) × (cntl1 ≤ 0xffff)) → length (answerBy letter n x) ≤ 12 + 14 * 6
 unfolding answerBy taken refused hexWord
 answer-short letter n (Taken cntl0 cntl1) h =
-    let good = h cntl0 cntl1 refl in
-    let rates = few n (good .number) in
-    simp length-append (omega (arith, periods-short n cntl0 cntl1 (good .second)))
+    let fits = h cntl0 cntl1 refl in
+    simp length-append (omega (arith, fits .0, periods-short n cntl0 cntl1 (fits .1)))
 answer-short letter n (Refused q) h = simp length-append (omega (arith, decimal-short .1 q))
 
 request-short : (q : Request) → length (replyBy q) ≤ 12 + 14 * 6
 unfolding replyBy
-request-short (Asks sheet tick n) = answer-short _ n _ (λ cntl0 cntl1 e. (ramps .taken sheet tick n cntl0 cntl1 e) .0)
+request-short (Asks sheet tick n) =
+    answer-short _ n _ (λ cntl0 cntl1 e. in-range sheet tick n cntl0 cntl1 (ramps .taken sheet tick n cntl0 cntl1 .0 e))
 request-short Other = omega arith
 
 pub none-longer : NoneLonger

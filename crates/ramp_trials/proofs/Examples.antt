@@ -14,10 +14,10 @@ use Rattle.ramp_trials.specs.Numbers.{TextsRight, isPattern, isShort, te
 use Rattle.ramp_trials.specs.Sheets as sheets
 use Rattle.ramp_trials.specs.Sheets.{SheetsRight, isAnswer, d, bits, forEach, noPositive, notPositive}
 
-texts-right : TextsRight
+pub texts-right : TextsRight
 unfolding isPattern isShort numbers.isRight numbers.allRight texts ascii isDigit withDigit takes afterDigits afterPoint withByte numeralOf valueOf decimalOf smallOf shortOf round toBits
 texts-right = refl
 
-sheets-right : SheetsRight
+pub sheets-right : SheetsRight
 unfolding isAnswer sheets.isRight sheets.allRight sheets.sheets d bits forEach noPositive notPositive ascii isDigit withDigit takes afterDigits afterPoint withByte numeralOf valueOf decimalOf round ofBits div neg lt le ask period rampGood halfUp countOf isRateCount isPositive isDifference isSpeedup periodCount speedCount slope wordsOf stepsOf endsOf periodsOf speedsOf countsOf
 sheets-right = refl

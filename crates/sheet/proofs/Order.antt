@@ -1,40 +1,20 @@
 -- The count of a faster speed is never larger: its period is not longer, and neither is that over the tick length.
-use mathlib.Core.Path.{_≡_, refl, sym, subst, _∙_}
-use mathlib.Core.Bool.{Bool, true, false, _&&_}
+use mathlib.Core.Path.{_≡_, refl, sym, _∙_}
+use mathlib.Core.Bool.{false}
 use Prim.Native.Nat.{ℕ, _*_, _≤_}
-use native.Mathlib.Nat.{zero-mul, mul-one, mul-pos, mul-comm, mul-assoc, mul-mul-mul-comm, mul-le-mul-left, mul-le-mul-right}
+use native.Mathlib.Nat.{mul-one, mul-comm, mul-assoc, mul-mul-mul-comm, mul-le-mul-left, mul-le-mul-right}
 use native.Mathlib.Omega.{arith}
 use borrow.Author.Tests.{not-true}
-use lib.Dec.{T, ltb, ltb→lt, lt→ltb}
-use lib.Ieee.{Float, nan, inf, fin, binary64, up, down, div, lt, le}
-use lib.Ieee.Fits.{up-pos}
-use lib.Ieee.Positive.{num, den, positive, first-pos}
+use lib.Dec.{T}
+use lib.Ieee.{Float, nan, inf, fin, binary64, div, lt, le}
+use lib.Ieee.Positive.{num, den, positive}
 use Rattle.floats.proofs.Quotient.{Finite, quotient-plain, quotients, finite-le, not-below}
 use Rattle.nearest.specs.Counting.{countOf}
 use Rattle.nearest.specs.declared.Count.the-variants.{Whole, Outside}
-use Rattle.nearest.proofs.ValueLaws.{same-test}
 use Rattle.nearest.proofs.NearestLaws.{no-count, nearest-whole}
-use Rattle.sheet.specs.Numbers.{thousand, isPositive, isSpeedup, periodCount, speedCount}
+use Rattle.sheet.specs.Numbers.{thousand, isSpeedup, periodCount, speedCount}
 use Rattle.sheet.specs.Claims.{Faster}
-
--- ---- a positive number, as the library has it: finite, the sign clear, and not 0
-
-both : (p q : Bool) → (T p → T q) → (T q → T p) → p && true ≡ q
-both true q i j = same-test true q i j
-both false q i j = same-test false q i j
-
-positive-is : (x : Float) → isPositive x ≡ positive x
-unfolding isPositive lt
-positive-is nan = refl
-positive-is (inf true) = refl
-positive-is (inf false) = refl
-positive-is (fin true m e) = refl
-positive-is (fin false m e) =
-    rw (zero-mul (down e), mul-one (m * up e))
-    (both (ltb 0 (m * up e)) (ltb 0 m) (λ t. lt→ltb 0 m (first-pos m (up e) (ltb→lt 0 (m * up e) t))) (λ t. lt→ltb 0 (m * up e) (mul-pos (ltb→lt 0 m t) (up-pos e))))
-
-passed : (x : Float) → isPositive x ≡ true → T (positive x)
-passed x h = subst T (sym h ∙ positive-is x) tt
+use Rattle.sheet.proofs.NumberLaws.{passed}
 
 -- ---- the orders of fractions
 

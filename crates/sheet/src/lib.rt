@@ -4,14 +4,14 @@ ghost use lib.Ieee.{lt};
 ghost use Rattle.sheet.specs.Numbers.{infinity, isRateCount, isPositive, isDifference, isSpeedup, periodCount, speedCount};
 use nearest::Count;
 
-// N is from 1 to 14.
+// N is one that STEP_RATE_CNT may have.
 pub fn is_rate_count(n: u8) -> bool
     ensures { λ r. ⌜ r ≡ isRateCount n ⌝ }
 {
     if n < 1 {
         return false;
     }
-    n <= 14
+    n as u16 <= unit::State::MAX_RATE
 }
 
 fn is_below_infinity(x: f64) -> bool

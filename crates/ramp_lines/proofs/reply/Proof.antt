@@ -35,7 +35,7 @@ returns c =
     let counts = letter .before .before in
     let told = counts .before .before in
     by-request _ _ _ _ _ _ (told .before .before .read .ensures) (told .asked .given .1)
-    (asks _ _ _ _ _ _ _ _ (counts .from-sheet .ensures) (letter .letter .ensures) (call .answer .ensures))
+    (asks _ _ _ _ _ _ _ _ (counts .from-sheet .ensures .0) (letter .letter .ensures) (call .answer .ensures))
 
 same-length-2 : tie.Need-same-length-2
 same-length-2 c = search needs

@@ -1,4 +1,4 @@
-use lib.Ieee.{ofBits}
+use lib.Ieee.{ofBits, le}
 use Rattle.sheet.specs.Numbers.{isDifference}
 use borrow.Author.Needs.{needs}
 use Rattle.sheet.proofs.is_difference.Statement.{statement}
@@ -8,11 +8,11 @@ is-below-infinity-requires : tie.Need-is-below-infinity-requires
 is-below-infinity-requires c κs = search needs
 
 returns : tie.Need-returns
-unfolding isDifference ofBits
+unfolding isDifference ofBits le
 returns c = rw (c .before .if1 .taken) (c .is-below-infinity .ensures)
 
 returns-2 : tie.Need-returns-2
-unfolding isDifference ofBits
+unfolding isDifference ofBits le
 returns-2 c = rw (c .if1 .left)
 
 pub is-difference-spec : {M : Type 1} → statement M
