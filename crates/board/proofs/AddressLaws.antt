@@ -12,7 +12,7 @@ use Rattle.unit.specs.declared.Place.the-variants.{AtRegister, AtWord, Nowhere}
 use Rattle.unit.specs.TheUnit.{exists}
 use Rattle.unit.specs.Gate.{place}
 use Rattle.unit.proofs.Tests.{or-left, or-right}
-use Rattle.settings.specs.Layout.{settings, settingAddress}
+use Rattle.keeping.specs.Layout.{settings, settingAddress}
 use Rattle.board.specs.Loads.{isSettingRegister, SettingAt, Addresses}
 
 -- ---- the setting registers, and the words that exist

@@ -12,13 +12,13 @@ use Rattle.history.specs.Moments.{Typed}
 use Rattle.history.proofs.Listed.{term-3-of, always-of, slow-moves-of}
 use Rattle.blocks.specs.Claims.{Bytes}
 use Rattle.blocks.proofs.SoundLaws.{word-fits}
-use Rattle.settings.specs.declared.Chosen.{Chosen}
-use Rattle.settings.specs.declared.Chosen.the-variants.{No, Block}
-use Rattle.settings.specs.declared.Loaded.{Loaded}
-use Rattle.settings.specs.Layout.{settings, settingWrites, loadCalls}
-use Rattle.settings.specs.Keeping.{chosen, allFree, loadFrom, loadOf}
+use Rattle.keeping.specs.declared.Chosen.{Chosen}
+use Rattle.keeping.specs.declared.Chosen.the-variants.{No, Block}
+use Rattle.keeping.specs.declared.Loaded.{Loaded}
+use Rattle.keeping.specs.Layout.{settings, settingWrites, loadCalls}
+use Rattle.keeping.specs.Keeping.{chosen, allFree, loadFrom, loadOf}
 use Rattle.board.specs.History.{BoardCall, OfUnit, Save, Load, after, boardRun, played, unitCalls, allCalls, TypedBoard, FromBoard, BoardHistory}
-use Rattle.settings.proofs.CallLaws.{run-append}
+use Rattle.keeping.proofs.LayoutLaws.{run-append}
 
 -- ---- what a list returns
 

@@ -1,6 +1,7 @@
 pub mod AddressLaws
 pub mod WriteLaws
 pub mod PutLaws
+pub mod ToLoadLaws
 pub mod LoadLaws
 pub mod HistoryLaws
 pub mod PlaceLaws

@@ -17,10 +17,10 @@ use Rattle.blocks.specs.Blocks.{isStore, count, laid, version, isSound}
 use Rattle.blocks.specs.Finding.{fits, rank, found}
 use Rattle.blocks.proofs.WordLaws.{laid-length, count-length, count-store}
 use Rattle.blocks.proofs.FindingLaws.{finds}
-use Rattle.settings.specs.declared.Kept.{Kept}
-use Rattle.settings.specs.declared.Kept.the-variants.{Taken, Refused}
-use Rattle.settings.specs.Layout.{blockWord}
-use Rattle.settings.specs.Keeping.{versionAt, greatest, orOldest, blockAt, placeOf, maySave, saveOf, storeAfter}
+use Rattle.keeping.specs.declared.Kept.{Kept}
+use Rattle.keeping.specs.declared.Kept.the-variants.{Taken, Refused}
+use Rattle.keeping.specs.Layout.{blockWord}
+use Rattle.keeping.specs.Keeping.{versionAt, greatest, orOldest, blockAt, placeOf, maySave, saveOf, storeAfter}
 use Rattle.board.specs.Saves.{Elsewhere}
 
 pub same-or-other : (j k : ℕ) → (j ≡ k) ⊎ (j ≢ k)

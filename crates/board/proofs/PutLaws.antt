@@ -24,7 +24,7 @@ use Rattle.history.proofs.Writes.{stored-at, sized-initialised}
 use Rattle.history.proofs.Leaves.{word-leaves}
 use Rattle.board.specs.Loads.{isSettingRegister}
 use Rattle.board.proofs.AddressLaws.{register-cases, Settled}
-use Rattle.board.proofs.WriteLaws.{Free, deedAt, put, not-requests}
+use Rattle.board.proofs.WriteLaws.{Still, deedAt, put, not-requests}
 
 -- ---- a stored word
 
@@ -121,10 +121,10 @@ put-keeps s Nowhere v x = absurd x
 not-setting : (c : ℕ) → isSettingRegister (hsrrOf c) ≡ false
 not-setting c = fails (isSettingRegister (hsrrOf c)) (λ t. not-requests (hsrrOf c) t (hsrr-range c .0) (hsrr-range c .1))
 
--- where so much is kept the channels stay free
-pub keeps-free : (s t : State) → Keeps s t → Free s → Free t
-unfolding Free stepping request
-keeps-free s t x f c h =
+-- where so much is kept the motors stay still
+pub keeps-still : (s t : State) → Keeps s t → Still s → Still t
+unfolding Still stepping request
+keeps-still s t x f c h =
     (ap bound (x .phases c) ∙ f c h .0, ap (λ r. field 2 r (2 * (c % 8))) (x .registers (hsrrOf c) (not-setting c)) ∙ f c h .1)
 
 -- ---- what is changed

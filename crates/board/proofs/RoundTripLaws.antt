@@ -2,34 +2,33 @@
 use Prim.Native.Nat.{ℕ, _+_, _-_, _<_}
 use native.Mathlib.Omega.{arith}
 use mathlib.Core.Bool.{true, false}
-use mathlib.Core.List.{List}
+use mathlib.Core.List.{List, [], _∷_}
 use mathlib.Core.Logic.{_≢_, _⊎_, ⊎-elim}
-use mathlib.Core.Path.{_≡_, sym, _∙_, ap}
+use mathlib.Core.Path.{_≡_, refl, sym, subst, _∙_, ap}
 use lib.Dec.{eqb}
 use borrow.Author.Tests.{lt-ltb, eq-eqb, ne-eqb, eqb-true}
-use Rattle.words.specs.Choice.{ask}
-use Rattle.words.proofs.ChoiceLaws.{and-left, and-right, ask-cases}
+use Rattle.words.proofs.ChoiceLaws.{and-left, and-right}
 use Rattle.unit.specs.declared.State.{State}
-use Rattle.unit.specs.Calls.{run}
 use Rattle.blocks.specs.declared.Search.the-variants.{Newest, Named}
-use Rattle.blocks.specs.declared.Found.{Found}
-use Rattle.blocks.specs.declared.Found.the-variants.{At, Missing}
+use Rattle.blocks.specs.declared.Found.the-variants.{At}
 use Rattle.blocks.specs.Blocks.{count, wordIn, version, isSound}
 use Rattle.blocks.specs.Finding.{fits, rank, found}
 use Rattle.blocks.proofs.FindingLaws.{finds}
-use Rattle.settings.specs.declared.Kept.the-variants.{Taken}
-use Rattle.settings.specs.declared.Which.{Which}
-use Rattle.settings.specs.declared.Which.the-variants.{Latest, Version}
-use Rattle.settings.specs.declared.Chosen.{Chosen}
-use Rattle.settings.specs.declared.Chosen.the-variants.{No, Block}
-use Rattle.settings.specs.Layout.{settings, setting, knownLayout, heldWord, blockWord, loadCalls}
-use Rattle.settings.specs.Keeping.{placeOf, storeAfter, sought, chosenIn, chosen, allFree, loadFrom, loadOf}
-use Rattle.settings.proofs.CallLaws.{block-word}
+use Rattle.keeping.specs.declared.Kept.{Kept}
+use Rattle.keeping.specs.declared.Kept.the-variants.{Taken, Refused}
+use Rattle.keeping.specs.declared.Which.{Which}
+use Rattle.keeping.specs.declared.Which.the-variants.{Latest, Version}
+use Rattle.keeping.specs.Layout.{settings, setting, heldWord, blockWord}
+use Rattle.keeping.specs.Keeping.{placeOf, saveOf, storeAfter, sought, loadOf}
+use Rattle.keeping.proofs.LayoutLaws.{block-word}
 use Rattle.board.specs.Saves.{Holds, SaveIs}
-use Rattle.board.specs.Loads.{Whole, Loads}
-use Rattle.board.specs.RoundTrip.{Restored, RoundTrip}
+use Rattle.board.specs.Loads.{ToLoad, AllFree, Loads}
+use Rattle.unit.specs.TheUnit.{Whole}
+use Rattle.board.specs.RoundTrip.{Restored, storeAfterAll, Spares, RoundTrip}
 use Rattle.board.proofs.PlaceLaws.{same-or-other, same-count}
 use Rattle.board.proofs.SaveLaws.{held-version, older, saves}
+use Rattle.board.proofs.ToLoadLaws.{to-load-found, found-to-load}
+use Rattle.board.proofs.LoadLaws.{load-taken}
 
 -- ---- a block that holds a save
 
@@ -48,24 +47,6 @@ setting-word s v n l =
 held-setting : (s : State) (v : ℕ) (b : List ℕ) (k n : ℕ) → Holds s v b k → n < settings → wordIn b k (3 + n) ≡ setting s n
 unfolding Holds
 held-setting s v b k n holds l = holds (3 + n) (omega arith) ∙ block-word s v (3 + n) (omega arith) ∙ setting-word s v n l
-
--- ---- the block that is taken
-
-takes : (b : List ℕ) (w : Which) (k : ℕ) → found b (sought w) ≡ At k → wordIn b k 0 ≡ 1 → chosen b w ≡ Block k
-unfolding chosen chosenIn ask
-takes b w k e one = rw (e, one)
-
-taken-in : (b : List ℕ) (k : ℕ) (f : Found) → chosenIn b f ≡ Block k → f ≡ At k
-unfolding chosenIn
-taken-in b k Missing = λ e. let z : _≡_ {A = ℕ} 0 1 = cc in absurd (omega arith)
-taken-in b k (At j) =
-    ask-cases (λ (c : Chosen). c ≡ Block k → At j ≡ At k) (eqb (wordIn b j 0) knownLayout) (No 13) (Block j)
-    (λ e. let z : _≡_ {A = ℕ} 0 1 = cc in absurd (omega arith))
-    (λ q e. cc)
-
-taken-block : (b : List ℕ) (w : Which) (k : ℕ) → chosen b w ≡ Block k → found b (sought w) ≡ At k
-unfolding chosen
-taken-block b w k e = taken-in b k (found b (sought w)) e
 
 -- ---- blocks of a version
 
@@ -117,16 +98,11 @@ module _ (s : State) (b : List ℕ) (v : ℕ) (is : SaveIs s b v) where
       let before = older s b v is j (omega (arith, is .within)) (λ e. omega arith) (named-sound c v j fit) in
       omega (arith, named-version c v j fit))
 
-  written-taken : (w : Which) → (w ≡ Latest) ⊎ (w ≡ Version v) → chosen (storeAfter s b) w ≡ Block (placeOf b)
+  written-found : (w : Which) → (w ≡ Latest) ⊎ (w ≡ Version v) → found (storeAfter s b) (sought w) ≡ At (placeOf b)
   unfolding sought
-  written-taken w which =
-      let layout = held-layout s v (storeAfter s b) (placeOf b) (is .holds) in
-      ⊎-elim
-      (λ e. rw e (takes (storeAfter s b) Latest (placeOf b) newest-written layout))
-      (λ e. rw e (takes (storeAfter s b) (Version v) (placeOf b) named-written layout))
-      which
+  written-found w which = ⊎-elim (λ e. rw e newest-written) (λ e. rw e named-written) which
 
--- ---- after a further save
+-- ---- after further saves
 
 named-same : (b c : List ℕ) (v j : ℕ) → isSound c j ≡ isSound b j → version c j ≡ version b j
     → fits c (Named v) j ≡ fits b (Named v) j
@@ -150,25 +126,40 @@ named-stays u b v k x is e other =
     (λ o. omega (arith, best .first j l (sym (same j o) ∙ fit)))
     (same-or-other j (placeOf b)))
 
-kept : (s u : State) (b : List ℕ) (v k x : ℕ) → Holds s v b k → chosen b (Version v) ≡ Block k → SaveIs u b x → k ≢ placeOf b
-    → Holds s v (storeAfter u b) k × (chosen (storeAfter u b) (Version v) ≡ Block k)
-unfolding Holds sought
-kept s u b v k x holds e is other =
-    let held : (i : ℕ) → i < 256 → wordIn (storeAfter u b) k i ≡ blockWord s v i = λ i l. is .words k i other l ∙ holds i l in
-    let still = named-stays u b v k x is (taken-block b (Version v) k e) other in
-    (held, takes (storeAfter u b) (Version v) k still (held-layout s v (storeAfter u b) k held))
+-- block k holds a save, and is found by its version
+abbrev Found-still : State → ℕ → ℕ → List ℕ → Type 0
+Found-still s v k b = Holds s v b k × (found b (Named v) ≡ At k)
+
+kept-by : (s u : State) (b : List ℕ) (v k x : ℕ) → Found-still s v k b → SaveIs u b x → k ≢ placeOf b → Found-still s v k (storeAfter u b)
+unfolding Holds
+kept-by s u b v k x h is other = (λ i l. is .words k i other l ∙ h .0 i l, named-stays u b v k x is (h .1) other)
+
+kept-one : (s u : State) (b : List ℕ) (v k : ℕ) → Found-still s v k b → ((x : ℕ) → saveOf b ≡ Taken x → k ≢ placeOf b)
+    → Found-still s v k (storeAfter u b)
+kept-one s u b v k h spared = told (saveOf b) refl
+  where
+    told : (r : Kept) → saveOf b ≡ r → Found-still s v k (storeAfter u b)
+    told (Taken x) e = kept-by s u b v k x h (saves .taken u b x e) (spared x e)
+    told (Refused n) e = subst (Found-still s v k) (sym (saves .refused u b n e .1)) h
+
+kept : (us : List State) (b : List ℕ) (s : State) (v k : ℕ) → Found-still s v k b → Spares k us b → Found-still s v k (storeAfterAll us b)
+unfolding storeAfterAll Spares
+kept [] b s v k h spared = h
+kept (u ∷ us) b s v k h spared = kept us (storeAfter u b) s v k (kept-one s u b v k h (spared .0)) (spared .1)
+
+kept-to-load : (s : State) (us : List State) (b : List ℕ) (v k : ℕ) → Holds s v b k → ToLoad b (Version v) k → Spares k us b
+    → Holds s v (storeAfterAll us b) k × ToLoad (storeAfterAll us b) (Version v) k
+unfolding sought
+kept-to-load s us b v k holds x spared =
+    let h = kept us b s v k (holds, to-load-found b (Version v) k x) spared in
+    (h .0, found-to-load (storeAfterAll us b) (Version v) k (h .1))
 
 -- ---- the load
 
-load-is : (t : State) (b : List ℕ) (k : ℕ) (w : Which) → chosen b w ≡ Block k → allFree t ≡ true
-    → loadOf t w b ≡ record { answer = Taken (version b k); state = run t (loadCalls b k) }
-unfolding loadOf loadFrom ask
-load-is t b k w e free = rw (e, free)
-
-later : Loads → (s t : State) (b : List ℕ) (v k : ℕ) (w : Which) → Holds s v b k → chosen b w ≡ Block k → Whole t
-    → allFree t ≡ true → Restored s t v (loadOf t w b)
+later : Loads → (s t : State) (b : List ℕ) (v k : ℕ) (w : Which) → Holds s v b k → found b (sought w) ≡ At k → Whole t
+    → AllFree t → Restored s t v (loadOf t w b)
 later loads s t b v k w holds e whole free =
-    rw (load-is t b k w e free) record {
+    rw (load-taken t w b k e (held-layout s v b k holds) free) record {
       answer = ap Taken (held-version s v b k holds);
       same = λ n l. loads .brings t b k n whole free l ∙ held-setting s v b k n holds l;
       leaves = loads .leaves t b k whole free;
@@ -178,7 +169,7 @@ pub round-trip : Loads → RoundTrip
 round-trip loads = record {
   at-once = λ s t b v w e which whole free.
       let is = saves .taken s b v e in
-      later loads s t (storeAfter s b) v (placeOf b) w (is .holds) (written-taken s b v is w which) whole free;
-  later = later loads;
-  kept = λ s u b v k x holds e save other. kept s u b v k x holds e (saves .taken u b x save) other;
+      later loads s t (storeAfter s b) v (placeOf b) w (is .holds) (written-found s b v is w which) whole free;
+  later = λ s t b v k w holds x whole free. later loads s t b v k w holds (to-load-found b w k x) whole free;
+  kept = kept-to-load;
 }

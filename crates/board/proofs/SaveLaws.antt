@@ -14,9 +14,9 @@ use Rattle.blocks.specs.Finding.{fits, found}
 use Rattle.blocks.proofs.SoundLaws.{sum-same}
 use Rattle.blocks.proofs.WordLaws.{laid-word, laid-other, count-good, sound-same, version-same}
 use Rattle.blocks.proofs.FindingLaws.{finds}
-use Rattle.settings.specs.Layout.{heldWord, blockWord}
-use Rattle.settings.specs.Keeping.{greatest, placeOf, maySave, storeAfter}
-use Rattle.settings.proofs.CallLaws.{block-word}
+use Rattle.keeping.specs.Layout.{heldWord, blockWord}
+use Rattle.keeping.specs.Keeping.{greatest, placeOf, maySave, storeAfter}
+use Rattle.keeping.proofs.LayoutLaws.{block-word}
 use Rattle.board.specs.Saves.{Holds, SaveIs, Distinct, Saves}
 use Rattle.board.proofs.PlaceLaws.{same-or-other, Next, next-of, taken-next, refused-not}
 use Rattle.board.proofs.PlaceLaws.{after-taken, after-refused, same-length, same-count, below-greatest, worst, elsewhere}

@@ -12,11 +12,11 @@ use Rattle.history.specs.Term3.{Term3Of}
 use Rattle.history.specs.SlowMoves.{SlowMovesOf}
 use Rattle.history.specs.Always.{AlwaysOf}
 use Rattle.blocks.specs.Claims.{Bytes}
-use Rattle.settings.specs.declared.Which.{Which}
-use Rattle.settings.specs.declared.Chosen.{Chosen}
-use Rattle.settings.specs.declared.Chosen.the-variants.{No, Block}
-use Rattle.settings.specs.Layout.{loadCalls}
-use Rattle.settings.specs.Keeping.{chosen, allFree, loadOf}
+use Rattle.keeping.specs.declared.Which.{Which}
+use Rattle.keeping.specs.declared.Chosen.{Chosen}
+use Rattle.keeping.specs.declared.Chosen.the-variants.{No, Block}
+use Rattle.keeping.specs.Layout.{loadCalls}
+use Rattle.keeping.specs.Keeping.{chosen, allFree, loadOf}
 
 -- a call of the board: one of the unit's, or one with the store that is lent to it
 pub data BoardCall : Type 0 where
@@ -24,7 +24,7 @@ pub data BoardCall : Type 0 where
   Save : List ℕ → BoardCall
   Load : Which → List ℕ → BoardCall
 
--- the state that it returns; a save returns none, the unit keeps its own
+-- the state after it. A save gets a copy of the state and gives none back: the caller's is the one it had
 unfoldable pub after : BoardCall → State → State
 after (OfUnit x) s = calls.after x s
 after (Save b) s = s
@@ -62,7 +62,7 @@ pub record FromBoard (listed : List Call) : Type 0 where
   pub come : listed ≡ allCalls resetState board
 
 pub record BoardHistory : Type 0 where
-  -- a list of the board's calls returns what the unit's calls return to which it comes, and so does each part of it
+  -- after a list of the board's calls the state is that after the unit's calls to which it comes, and so with each part of it
   pub returns : (s : State) (xs : List BoardCall) → boardRun s xs ≡ run s (allCalls s xs)
   pub parts : (s : State) (xs ys : List BoardCall) → allCalls s (xs ++ ys) ≡ allCalls s xs ++ allCalls (boardRun s xs) ys
   -- term 3, what always holds, and the speeds of request #103, of every list of the board's calls

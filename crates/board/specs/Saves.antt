@@ -10,9 +10,9 @@ use Rattle.blocks.specs.declared.Search.the-variants.{Newest}
 use Rattle.blocks.specs.declared.Found.the-variants.{At}
 use Rattle.blocks.specs.Blocks.{count, wordIn, version, isSound}
 use Rattle.blocks.specs.Finding.{found}
-use Rattle.settings.specs.declared.Kept.the-variants.{Taken, Refused}
-use Rattle.settings.specs.Layout.{blockWord}
-use Rattle.settings.specs.Keeping.{placeOf, saveOf, storeAfter}
+use Rattle.keeping.specs.declared.Kept.the-variants.{Taken, Refused}
+use Rattle.keeping.specs.Layout.{blockWord}
+use Rattle.keeping.specs.Keeping.{placeOf, saveOf, storeAfter}
 
 -- block k holds the settings of s as version v
 unfoldable pub Holds : State → ℕ → List ℕ → ℕ → Type 0

@@ -1,9 +1,8 @@
 -- One setting read, one word of a block more, one write of a load more.
-use Prim.Native.Nat.{ℕ, _+_, _-_, _%_, _<_}
+use Prim.Native.Nat.{ℕ, _+_, _-_, _%_}
 use native.Mathlib.Numerals.{add-one}
-use mathlib.Core.List.{List, [], _∷_, _++_}
+use mathlib.Core.List.{List, [], _∷_}
 use mathlib.Core.Path.{_≡_, refl, sym, _∙_}
-use borrow.Author.Tests.{lt-ltb}
 use Rattle.words.specs.Choice.{ask}
 use Rattle.unit.specs.declared.State.{State}
 use Rattle.unit.specs.declared.Reading.{Reading}
@@ -12,9 +11,10 @@ use Rattle.unit.specs.declared.Place.{Place}
 use Rattle.unit.specs.declared.Place.the-variants.{AtRegister, AtWord, Nowhere}
 use Rattle.unit.specs.Gate.{place, isPlace, inList}
 use Rattle.unit.specs.declared.Answered.{Answered}
-use Rattle.unit.specs.Calls.{wordAt, readOf, writeOf, Call, after, run}
+use Rattle.unit.specs.Calls.{wordAt, readOf, writeOf, after, run}
 use Rattle.blocks.specs.Blocks.{wordIn, withWord, laid, sum, checkWord}
-use Rattle.settings.specs.Layout.{settingAddress, setting, heldWord, blockWord, settingWrites}
+use Rattle.keeping.specs.Layout.{settingAddress, setting, heldWord, blockWord, settingWrites}
+use Rattle.keeping.proofs.LayoutLaws.{run-append}
 
 -- the word of a reading, 0 where it is refused
 abbrev pub shown : Reading → ℕ
@@ -38,20 +38,11 @@ pub laid-next : (f : ℕ → ℕ) (b was is : List ℕ) (k i w : ℕ) → was �
 unfolding laid
 laid-next f b was is k i w e g h = rw (add-one, g, e, h)
 
-pub block-word : (s : State) (v i : ℕ) → i < 255 → blockWord s v i ≡ heldWord s v i
-unfolding blockWord
-block-word s v i l = rw (lt-ltb i 255 l)
-
 pub check-block : (s : State) (v total : ℕ) → total ≡ sum (heldWord s v) 255 % 65536 → 0xffff - total ≡ blockWord s v 255
 unfolding blockWord checkWord
 check-block s v total e = rw e
 
 -- ---- a load
-
-pub run-append : (s : State) (xs ys : List Call) → run s (xs ++ ys) ≡ run (run s xs) ys
-unfolding run
-run-append s [] ys = refl
-run-append s (x ∷ xs) ys = run-append (after x s) xs ys
 
 -- one setting more is written
 pub written-next : (start was : State) (r : Answered) (b : List ℕ) (k n a v : ℕ) → was ≡ run start (settingWrites b k n)

@@ -1,18 +1,12 @@
 // Where the settings stand, in the unit and in a block.
 ghost use mathlib.Core.Path.{_≡_};
 ghost use Rattle.blocks.specs.Blocks.{laid};
-ghost use Rattle.settings.specs.Layout.{settingAddress, setting, heldWord, blockWord};
+ghost use Rattle.keeping.specs.Layout.{settingAddress, setting, heldWord, blockWord};
+use keeping::FIRST;
+use keeping::LAYOUT;
+use keeping::SETTINGS;
 use unit::Reading;
 use unit::State;
-
-// How many settings a board has.
-pub const SETTINGS: u8 = 106;
-
-// The word of a block that holds the first of them.
-pub const FIRST: u8 = 3;
-
-// The layout of a block that is written and known here.
-pub const LAYOUT: u16 = 1;
 
 // Six words each of channels 0 to 13, the sixteen of 14 and 15, CFSR, CPR.
 pub fn address(n: u8) -> u16

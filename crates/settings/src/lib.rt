@@ -4,35 +4,20 @@ mod loading;
 mod saving;
 
 ghost use mathlib.Core.Path.{_≡_};
-ghost use Rattle.settings.specs.Keeping.{saveOf, storeAfter, loadOf};
+ghost use Rattle.keeping.specs.Keeping.{numberOf, versionOf, saveOf, saveNumber, saveVersion, storeAfter};
+ghost use Rattle.keeping.specs.Keeping.{chosen, loadOf, loadNumber, loadVersion};
+use keeping::Chosen;
+use keeping::Kept;
+use keeping::Loaded;
+use keeping::Which;
 use unit::State;
 
-// What is answered: the version that was saved or loaded, or the number of the no.
-pub enum Kept {
-    Taken(u32),
-    Refused(u8),
-}
-
-// Which version is loaded.
-pub enum Which {
-    Latest,
-    Version(u32),
-}
-
-pub struct Loaded {
-    pub answer: Kept,
-    pub state: State,
-}
-
-// The block that a load takes, or the store's own no.
-pub enum Chosen {
-    Block(u8),
-    No(u8),
-}
-
 // Keeps the settings of s as the next version. Refused, it leaves the store as it was.
+// It gets a copy of the state and gives none back: the caller's own is as it was.
 pub fn save(s: State, store: &mut [u8]) -> Kept
-    ensures { λ r. ⌜ (r ≡ saveOf (now (store .entry))) × (now (store .exit) ≡ storeAfter s (now (store .entry))) ⌝ }
+    ensures { λ r. ⌜ (r ≡ saveOf (now (store .entry)))
+        × (numberOf r ≡ saveNumber (now (store .entry))) × (versionOf r ≡ saveVersion (now (store .entry)))
+        × (now (store .exit) ≡ storeAfter s (now (store .entry))) ⌝ }
 {
     if blocks::count(store) == 0 {
         return Kept::Refused(12);
@@ -48,7 +33,9 @@ pub fn save(s: State, store: &mut [u8]) -> Kept
 
 // Plays the settings of a version in, as ordinary writes. Refused, it leaves the state as it was.
 pub fn load(s: State, which: Which, store: &[u8]) -> Loaded
-    ensures { λ r. ⌜ r ≡ loadOf s which (now (store .entry)) ⌝ }
+    ensures { λ r. ⌜ (r ≡ loadOf s which (now (store .entry)))
+        × (numberOf (r .answer) ≡ loadNumber s (chosen (now (store .entry)) which))
+        × (versionOf (r .answer) ≡ loadVersion s (now (store .entry)) (chosen (now (store .entry)) which)) ⌝ }
 {
     let c = loading::chosen(store, which);
     match c {

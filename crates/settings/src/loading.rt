@@ -1,16 +1,19 @@
 // Which block is loaded, and its writes.
 ghost use mathlib.Core.Path.{_≡_};
 ghost use Rattle.unit.specs.Calls.{run};
-ghost use Rattle.settings.specs.Layout.{loadCalls};
-ghost use Rattle.settings.specs.Keeping.{sought, chosen, allFree, loadFrom};
-ghost use Rattle.settings.specs.declared.Chosen.the-variants.{Block};
-use crate::Chosen;
-use crate::Kept;
-use crate::Loaded;
-use crate::Which;
+ghost use Rattle.keeping.specs.Layout.{loadCalls};
+ghost use Rattle.keeping.specs.Keeping.{sought, chosen, allFree, loadFrom};
+ghost use Rattle.keeping.specs.declared.Chosen.the-variants.{Block};
 use crate::layout;
 use blocks::Found;
 use blocks::Search;
+use keeping::Chosen;
+use keeping::FIRST;
+use keeping::Kept;
+use keeping::LAYOUT;
+use keeping::Loaded;
+use keeping::SETTINGS;
+use keeping::Which;
 use unit::State;
 
 fn sought(which: Which) -> Search
@@ -30,7 +33,7 @@ pub fn chosen(store: &[u8], which: Which) -> Chosen
     let Found::At(k) = at else {
         return Chosen::No(12);
     };
-    if blocks::word(store, k, 0) != layout::LAYOUT {
+    if blocks::word(store, k, 0) != LAYOUT {
         return Chosen::No(13);
     }
     Chosen::Block(k)
@@ -50,12 +53,8 @@ fn all_free(s: State) -> bool
 fn played(mut s: State, store: &[u8], k: u8) -> State
     ensures { λ r. ⌜ r ≡ run s (loadCalls (now (store .entry)) k) ⌝ }
 {
-    for n in 0..layout::SETTINGS {
-        let written = tpu::write(
-            s,
-            layout::address(n),
-            blocks::word(store, k, layout::FIRST + n),
-        );
+    for n in 0..SETTINGS {
+        let written = tpu::write(s, layout::address(n), blocks::word(store, k, FIRST + n));
         let next = written.state;
         s = next;
     }

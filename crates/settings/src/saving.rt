@@ -1,6 +1,6 @@
 // Under which version a save goes, and where to.
 ghost use mathlib.Core.Path.{_≡_};
-ghost use Rattle.settings.specs.Keeping.{greatest, placeOf};
+ghost use Rattle.keeping.specs.Keeping.{greatest, placeOf};
 use blocks::Found;
 use blocks::Search;
 

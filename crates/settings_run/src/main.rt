@@ -2,8 +2,8 @@
 ghost use mathlib.Core.Path.{_≡_};
 ghost use Prim.Native.Nat.{_≤_};
 ghost use lib.ListN.{length};
+use keeping::Which;
 use libc::STDIN_FILENO;
-use settings::Which;
 use unit::State;
 
 mod show;

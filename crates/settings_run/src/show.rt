@@ -1,7 +1,7 @@
 // What the settings run prints, on standard output.
 ghost use Prim.Native.Nat.{_<_};
+use keeping::Kept;
 use libc::STDOUT_FILENO;
-use settings::Kept;
 
 // The bytes of a store are printed in rows of 32, and a block has 16 rows.
 const ROW: usize = 32;

@@ -1,7 +1,7 @@
 use borrow.Author.Needs.{needs}
 use Rattle.settings.proofs.layout.address.Statement.{statement}
 use Rattle.settings.proofs.layout.address.Tie as tie
-use Rattle.settings.specs.Layout.{settingAddress}
+use Rattle.keeping.specs.Layout.{settingAddress}
 use Rattle.words.proofs.ChoiceLaws.{cases}
 
 mul-result : tie.Need-mul-result

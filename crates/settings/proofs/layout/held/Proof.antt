@@ -1,7 +1,7 @@
 use borrow.Author.Needs.{needs}
 use Rattle.settings.proofs.layout.held.Statement.{statement}
 use Rattle.settings.proofs.layout.held.Tie as tie
-use Rattle.settings.specs.Layout.{heldWord}
+use Rattle.keeping.specs.Layout.{heldWord}
 use Rattle.words.proofs.ChoiceLaws.{cases}
 
 returns : tie.Need-returns

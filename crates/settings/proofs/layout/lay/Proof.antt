@@ -8,8 +8,9 @@ use lib.ListN.{length}
 use borrow.Author.Needs.{needs}
 use Rattle.blocks.specs.Blocks.{laid, sum}
 use Rattle.blocks.proofs.WordLaws.{laid-length}
-use Rattle.settings.specs.Layout.{heldWord, blockWord}
-use Rattle.settings.proofs.CallLaws.{laid-next, block-word, check-block}
+use Rattle.keeping.specs.Layout.{heldWord, blockWord}
+use Rattle.keeping.proofs.LayoutLaws.{block-word}
+use Rattle.settings.proofs.CallLaws.{laid-next, check-block}
 
 abbrev Inv-loop : tie.InvT-loop
 Inv-loop store₀ k s version total₀ i₀ store total i =

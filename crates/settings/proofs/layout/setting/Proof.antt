@@ -16,10 +16,10 @@ enum-told : tie.Need-enum-told
 enum-told c = search needs
 
 returns : tie.Need-returns
-returns c = reads-setting _ _ _ _ _ (c .before .before .before .before .address .ensures) (c .before .before .before .read .ensures) (c .before .r .given .1)
+returns c = reads-setting _ _ _ _ _ (c .before .before .before .before .address .ensures) (c .before .before .before .read .ensures .0) (c .before .r .given .1)
 
 returns-2 : tie.Need-returns-2
-returns-2 c = reads-setting _ _ _ _ _ (c .before .before .before .address .ensures) (c .before .before .read .ensures) (c .enum-told .given .1)
+returns-2 c = reads-setting _ _ _ _ _ (c .before .before .before .address .ensures) (c .before .before .read .ensures .0) (c .enum-told .given .1)
 
 pub setting-spec : {M : Type 1} → statement M
 setting-spec =

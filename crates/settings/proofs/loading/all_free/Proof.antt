@@ -6,7 +6,7 @@ use mathlib.Core.Path.{_≡_, refl}
 use borrow.Author.Needs.{needs}
 use Rattle.unit.specs.TheUnit.{all}
 use Rattle.unit.specs.Gate.{isFree}
-use Rattle.settings.specs.Keeping.{allFree}
+use Rattle.keeping.specs.Keeping.{allFree}
 use Rattle.settings.proofs.AnswerLaws.{free-next}
 
 abbrev Inv-loop : tie.InvT-loop

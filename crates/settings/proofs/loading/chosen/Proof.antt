@@ -3,7 +3,7 @@ use Rattle.settings.proofs.loading.chosen.Statement.{statement}
 use Rattle.settings.proofs.loading.chosen.Tie as tie
 use borrow.Author.Tests.{eq-eqb, ne-eqb}
 use Rattle.words.specs.Choice.{ask}
-use Rattle.settings.specs.Keeping.{chosenIn, chosen}
+use Rattle.keeping.specs.Keeping.{chosenIn, chosen}
 
 sought-requires : tie.Need-sought-requires
 sought-requires c κs = search needs

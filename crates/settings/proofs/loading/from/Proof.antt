@@ -2,7 +2,7 @@ use borrow.Author.Needs.{needs}
 use Rattle.settings.proofs.loading.from.Statement.{statement}
 use Rattle.settings.proofs.loading.from.Tie as tie
 use Rattle.words.proofs.ChoiceLaws.{goes-on, stops}
-use Rattle.settings.specs.Keeping.{loadFrom}
+use Rattle.keeping.specs.Keeping.{loadFrom}
 
 all-free-requires : tie.Need-all-free-requires
 all-free-requires c κs = search needs

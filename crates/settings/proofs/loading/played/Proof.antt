@@ -5,7 +5,7 @@ use native.Mathlib.Omega.{arith}
 use mathlib.Core.Path.{_≡_, refl}
 use borrow.Author.Needs.{needs}
 use Rattle.unit.specs.Calls.{run}
-use Rattle.settings.specs.Layout.{settingWrites, loadCalls}
+use Rattle.keeping.specs.Layout.{settingWrites, loadCalls}
 use Rattle.settings.proofs.CallLaws.{written-next}
 
 abbrev Inv-loop : tie.InvT-loop
@@ -40,7 +40,7 @@ loop-again : tie.Need-loop-again Inv-loop μ-loop
 loop-again c =
     let h : c .before .before .before .before .before .loop .n + 1 ≤ 106 = omega arith in (
       h,
-      written-next _ _ _ _ _ _ _ _ (c .before .before .before .before .before .loop .inv .1) (c .before .write .ensures)
+      written-next _ _ _ _ _ _ _ _ (c .before .before .before .before .before .loop .inv .1) (c .before .write .ensures .0)
           (c .before .before .before .address .ensures) (c .before .before .word .ensures),
     )
 

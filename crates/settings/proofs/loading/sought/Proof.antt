@@ -1,7 +1,7 @@
 use borrow.Author.Needs.{needs}
 use Rattle.settings.proofs.loading.sought.Statement.{statement}
 use Rattle.settings.proofs.loading.sought.Tie as tie
-use Rattle.settings.specs.Keeping.{sought}
+use Rattle.keeping.specs.Keeping.{sought}
 
 enum-told : tie.Need-enum-told
 enum-told c = search needs

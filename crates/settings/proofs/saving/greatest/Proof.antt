@@ -1,7 +1,7 @@
 use borrow.Author.Needs.{needs}
 use Rattle.settings.proofs.saving.greatest.Statement.{statement}
 use Rattle.settings.proofs.saving.greatest.Tie as tie
-use Rattle.settings.specs.Keeping.{versionAt, greatest}
+use Rattle.keeping.specs.Keeping.{versionAt, greatest}
 
 find-requires : tie.Need-find-requires
 find-requires c κs = search needs

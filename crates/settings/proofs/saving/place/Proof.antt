@@ -1,7 +1,7 @@
 use borrow.Author.Needs.{needs}
 use Rattle.settings.proofs.saving.place.Statement.{statement}
 use Rattle.settings.proofs.saving.place.Tie as tie
-use Rattle.settings.specs.Keeping.{orOldest, blockAt, placeOf}
+use Rattle.keeping.specs.Keeping.{orOldest, blockAt, placeOf}
 
 find-requires : tie.Need-find-requires
 find-requires c κs = search needs

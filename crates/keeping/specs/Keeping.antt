@@ -14,14 +14,26 @@ use Rattle.blocks.specs.declared.Found.{Found}
 use Rattle.blocks.specs.declared.Found.the-variants.{At, Missing}
 use Rattle.blocks.specs.Blocks.{isStore, wordIn, laid, version}
 use Rattle.blocks.specs.Finding.{found}
-use Rattle.settings.specs.declared.Kept.{Kept}
-use Rattle.settings.specs.declared.Kept.the-variants.{Taken, Refused}
-use Rattle.settings.specs.declared.Which.{Which}
-use Rattle.settings.specs.declared.Which.the-variants.{Latest, Version}
-use Rattle.settings.specs.declared.Chosen.{Chosen}
-use Rattle.settings.specs.declared.Chosen.the-variants.{Block, No}
-use Rattle.settings.specs.declared.Loaded.{Loaded}
-use Rattle.settings.specs.Layout.{knownLayout, blockWord, loadCalls}
+use Rattle.keeping.specs.declared.Kept.{Kept}
+use Rattle.keeping.specs.declared.Kept.the-variants.{Taken, Refused}
+use Rattle.keeping.specs.declared.Which.{Which}
+use Rattle.keeping.specs.declared.Which.the-variants.{Latest, Version}
+use Rattle.keeping.specs.declared.Chosen.{Chosen}
+use Rattle.keeping.specs.declared.Chosen.the-variants.{Block, No}
+use Rattle.keeping.specs.declared.Loaded.{Loaded}
+use Rattle.keeping.specs.Layout.{knownLayout, blockWord, loadCalls}
+
+-- ---- an answer
+
+-- its number in the paper, 0 where the call is taken
+unfoldable pub numberOf : Kept → ℕ
+numberOf (Taken v) = 0
+numberOf (Refused n) = n
+
+-- the version that was saved or loaded, 0 where the call is refused
+unfoldable pub versionOf : Kept → ℕ
+versionOf (Taken v) = v
+versionOf (Refused n) = 0
 
 -- ---- save
 
@@ -54,6 +66,13 @@ maySave b = isStore b && ltb (greatest b) 0xffffffff
 unfoldable pub saveOf : List ℕ → Kept
 saveOf b = pick (maySave b) (Taken (suc (greatest b))) (Refused 12)
 
+-- the same in numbers
+unfoldable pub saveNumber : List ℕ → ℕ
+saveNumber b = pick (maySave b) 0 12
+
+unfoldable pub saveVersion : List ℕ → ℕ
+saveVersion b = pick (maySave b) (suc (greatest b)) 0
+
 -- the store after it
 unfoldable pub storeAfter : State → List ℕ → List ℕ
 storeAfter s b = pick (maySave b) (laid (blockWord s (suc (greatest b))) b (placeOf b) 256) b
@@ -84,3 +103,12 @@ loadFrom s b (Block k) =
 
 unfoldable pub loadOf : State → Which → List ℕ → Loaded
 loadOf s w b = loadFrom s b (chosen b w)
+
+-- its answer in numbers, by the block that is taken
+unfoldable pub loadNumber : State → Chosen → ℕ
+loadNumber s (No n) = n
+loadNumber s (Block k) = pick (allFree s) 0 2
+
+unfoldable pub loadVersion : State → List ℕ → Chosen → ℕ
+loadVersion s b (No n) = 0
+loadVersion s b (Block k) = pick (allFree s) (version b k) 0
