@@ -389,10 +389,8 @@ impl Plain {
             }
             STEP => {
                 self.channels[c].request = 0;
-                let stepping = matches!(
-                    self.channels[c].phase,
-                    Phase::Armed(_) | Phase::Matched(_)
-                );
+                let stepping =
+                    matches!(self.channels[c].phase, Phase::Armed(_) | Phase::Matched(_));
                 if !stepping {
                     self.bind(c);
                     self.test(c, self.tcr1);

@@ -19,7 +19,7 @@ use Rattle.unit.specs.OneTick.{tick}
 use Rattle.unit.specs.Gate.{mayInitialise}
 use Rattle.unit.specs.Calls.{Call}
 use Rattle.history.specs.Moments.{Act, Ticks as ticks, Writes as writes, Nothing as nothing, does, through, priorityOf}
-use Rattle.history.specs.Always.{GroupShown, StateOf, ByInitialise, ByMatch, Pending, StepPending, InitialiseIs, Untouched, Always}
+use Rattle.history.specs.Always.{GroupShown, StateOf, ByInitialise, ByMatch, Pending, InitialiseIs, Untouched, Always}
 use Rattle.history.proofs.Alone.{fades-tick}
 use Rattle.history.proofs.Held.{Held}
 use Rattle.history.proofs.Parts.{Part, part}
@@ -154,7 +154,7 @@ untouched-is j s t x n =
     record { pin = ap (λ (y : Part). y .pin) q; control = ap (λ (y : Part). y .control) q; source = ap (λ (y : Part). y .source) q; set-up = ap (λ (y : Part). y .initialised) q; status = x .status-not n }
 
 pub always : Always
-unfolding Every channelControl Pending StepPending request hsrrOf
+unfolding Every channelControl Pending request hsrrOf
 always =
     record {
       shown = λ calls s x p l g. ((state-good calls s x) .1 p l g) .1;

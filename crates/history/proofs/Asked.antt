@@ -6,7 +6,6 @@ use mathlib.Core.Bool.{Bool, true, false, _&&_}
 use mathlib.Core.Path.{_≡_, refl, ap, sym, subst, _∙_}
 use mathlib.Core.Logic.{_≢_, ⊎-elim}
 use lib.Dec.{eqb, ltb, leb}
-use lib.ListN.{getD}
 use borrow.Author.Tests.{eqb-true, ltb-true}
 use Rattle.words.specs.Field.{field}
 use Rattle.words.proofs.ChoiceLaws.{pick-cases, not-both, and-left, and-right}
@@ -21,7 +20,8 @@ use Rattle.unit.specs.TheUnit.{each, reg, hsrrOf, request, withRequest, withReg
 use Rattle.unit.specs.Gate.{place, requested, requestedOne, Asked, askChannel, andThen, askChannels, askRegister, askPlace}
 use Rattle.unit.specs.Calls.{answeredBy, writeOf, isTaken}
 use Rattle.unit.specs.Takes.{Free, Stepper, Member, MayStep}
-use Rattle.unit.proofs.Takes.{step-may}
+use Rattle.unit.proofs.Together.{same-word, moved-member, moved-step}
+use Rattle.unit.proofs.Questions.{step-may}
 use Rattle.unit.proofs.Reset.{Sized}
 use Rattle.unit.proofs.Access.{request-other, channel-other}
 use Rattle.unit.proofs.Places.{gate-place}
@@ -83,17 +83,13 @@ module _ (n i v : ℕ) (s : State) (f : Fine s) (l : n ≤ 8) (a : 7 ≤ i) (b :
   leaves : RegisterLeaves (λ d. isStepOf d v (AtRegister i)) i s w
   leaves = requests-leave n i v s l a b
 
-  same-word : (j k : ℕ) → word w j k ≡ word s j k
-  unfolding word
-  same-word j k = ap (λ x. getD x (8 * j + k) 0) (leaves .words)
-
   back-unbound : (j : ℕ) → isBound w j ≡ false → isBound s j ≡ false
   unfolding reaches last
   back-unbound j u =
       let z : Sized w = (fine-requests n (8 * (8 - i)) v s (omega arith) f) .sized in
       is-unbound j s (less (stepping s j) (stepping w j) (requests-stepping n (8 * (8 - i)) v s j) (unbound-still j w u))
       (λ p. less-reach (stepping s p) (stepping w p) _ (requests-stepping n (8 * (8 - i)) v s p)
-      (subst (λ x. (stepping w p && (leb p j && leb j (field 4 x 0))) ≡ false) (same-word p 5) (unreached j w z u p)))
+      (subst (λ x. (stepping w p && (leb p j && leb j (field 4 x 0))) ≡ false) (same-word s w (leaves .words) p 5) (unreached j w z u p)))
 
   back-free : (j : ℕ) → 8 * (8 - i) + n ≤ j → j < 16 → Free j w → Free j s
   unfolding request hsrrOf
@@ -104,29 +100,10 @@ module _ (n i v : ℕ) (s : State) (f : Fine s) (l : n ≤ 8) (a : 7 ≤ i) (b :
   back-stepper j e = ap (λ x. field 4 x (4 * (j % 4))) (sym (leaves .registers (1 + (3 - j / 4)) (λ q. omega arith))) ∙ e
 
   back-member : (m j : ℕ) → 8 * (8 - i) + n ≤ j → j < 16 → Member m j w → Member m j s
-  back-member m j k h x =
-      record {
-        free = back-free j k h (x .free);
-        stepper = back-stepper j (x .stepper);
-        initialised = sym (leaves .setup j) ∙ x .initialised;
-        pattern = λ p q. ap (λ y. field 1 y p) (sym (same-word j 0)) ∙ x .pattern p q ∙ ap (λ y. field 1 y ((p + m) % 16)) (same-word j 1);
-      }
+  back-member m j k h x = moved-member w s (sym (leaves .words)) m j (back-free j k h (x .free)) (back-stepper j (x .stepper)) (sym (leaves .setup j) ∙ x .initialised) x
 
   back-step : (c : ℕ) → c ≡ 8 * (8 - i) + n → MayStep c w → MayStep c s
-  back-step c e m =
-      record {
-        zero5 = subst (λ y. (field 4 y 12 ≡ 0) × (field 4 y 4 ≡ 0)) (same-word c 5) (m .zero5);
-        least = subst (λ y. 1 ≤ field 4 y 8) (same-word c 5) (m .least);
-        most = subst (λ y. field 4 y 8 ≤ 14) (same-word c 5) (m .most);
-        above = subst (λ y. c < field 4 y 0) (same-word c 5) (m .above);
-        near = subst (λ y. field 4 y 0 ≤ c + 7) (same-word c 5) (m .near);
-        zero4 = subst (λ y. (field 4 y 12 ≡ 0) × (field 4 y 4 ≡ 0)) (same-word c 4) (m .zero4);
-        slow = subst (λ y. field 4 y 0 ≡ 1) (same-word c 4) (m .slow);
-        group = λ j x y. back-member (field 4 (word s c 4) 8) j (omega arith) (omega (arith, field-lt 4 (word s c 5) 0)) (subst (λ z. Member (field 4 z 8) j w) (same-word c 4) (m .group j x (subst (λ z. j ≤ field 4 z 0) (sym (same-word c 5)) y)));
-        fastest = subst (λ y. word s (suc c) 2 * (1 + field 4 y 8) < word s (suc c) 3) (same-word c 5) (subst (λ y. y * (1 + field 4 (word w c 5) 8) < word s (suc c) 3) (same-word (suc c) 2) (subst (λ y. word w (suc c) 2 * (1 + field 4 (word w c 5) 8) < y) (same-word (suc c) 3) (m .fastest)));
-        slowest = subst (λ y. word s (suc c) 3 ≤ 0x7fff + y * 2) (same-word (suc c) 2) (subst (λ y. y ≤ 0x7fff + word w (suc c) 2 * 2) (same-word (suc c) 3) (m .slowest));
-        target = subst (λ y. word s c 3 + field 4 y 8 ≤ 0xffff) (same-word c 5) (subst (λ y. y + field 4 (word w c 5) 8 ≤ 0xffff) (same-word c 3) (m .target));
-      }
+  back-step c e m = moved-step w s (sym (leaves .words)) c (λ j x y. back-member _ j (omega arith) (omega (arith, field-lt 4 (word w c 5) 0)) (m .group j x y)) m
 
 -- ---- in an HSRR word
 

@@ -7,19 +7,18 @@ use mathlib.Core.Logic.{_≢_}
 use mathlib.Core.List.{List, []}
 use lib.Dec.{eqb}
 use borrow.Author.Tests.{eqb-true, eqb-false}
-use Rattle.words.specs.Clock.{due}
 use Rattle.words.specs.Field.{field}
 use Rattle.words.proofs.ChoiceLaws.{pick-cases, not-both}
-use Rattle.motor.specs.declared.Way.{Way}
 use Rattle.motor.specs.declared.Phase.{Phase}
 use Rattle.motor.specs.declared.Phase.the-variants.{Resting, Requested, Armed, Matched}
 use Rattle.motor.specs.declared.Outcome.{Outcome}
 use Rattle.motor.specs.declared.Outcome.the-variants.{Arrived, Step}
 use Rattle.unit.specs.declared.State.{State}
-use Rattle.unit.specs.TheUnit.{withTime, each, reg, request, withRequest, enabled, status, withStatus, withPin, withPins, channel, withChannel, withInitialised, withLevel, withPhase, word, withWord, withWords, pin, modCount, size, stepping, reaches, channelControl, pinControl}
-use Rattle.unit.specs.Stepping.{pinOut, pinsOut, nextCount, prepared, matchSet, stepped, outcome}
-use Rattle.unit.specs.OneTick.{matchOf, matched, initialise, stepRequest, requestServed, matchServed, served, clocked, tick}
+use Rattle.unit.specs.TheUnit.{withTime, each, reg, request, withRequest, enabled, status, withStatus, withPin, withPins, channel, withChannel, withInitialised, withPhase, word, withWord, withWords, pin, stepping, reaches, channelControl, pinControl}
+use Rattle.unit.specs.Stepping.{outcome}
+use Rattle.unit.specs.OneTick.{matched, initialise, stepRequest, requestServed, matchServed, served, clocked, tick}
 use Rattle.unit.proofs.Reset.{Sized}
+use Rattle.unit.proofs.Passing.{left-each, left-step, left-matched}
 use Rattle.unit.proofs.Access.{sized-pin, sized-word, sized-channel, request-same, request-other, request-status, status-same, status-other, status-request, enabled-request, enabled-status}
 use Rattle.history.proofs.Frame.{Going, sized-request, sized-phase, sized-requestServed}
 use Rattle.history.proofs.Alone.{Fades, request-initialise, fades-each, fades-clocked, fades-matches, fades-served}
@@ -41,34 +40,6 @@ bits-regs : (s t : State) (j : ℕ) → s .regs ≡ t .regs → bits s j ≡ bit
 unfolding bits request enabled status reg
 bits-regs s t j e = ap (λ (r : List ℕ). bits record { words = []; regs = r; tcr1 = 0; pins = 0; channels = [] } j) e
 
-regs-each : (n a : ℕ) (f : ℕ → State → State) → ((i : ℕ) (t : State) → (f i t) .regs ≡ t .regs) → (s : State) → (each n a f s) .regs ≡ s .regs
-unfolding each
-regs-each zero a f h s = refl
-regs-each (suc n) a f h s = h (a + n) (each n a f s) ∙ regs-each n a f h s
-
-regs-pins : (s : State) (i : ℕ) → (pinsOut s i) .regs ≡ s .regs
-unfolding pinsOut pinOut withPin withPins
-regs-pins s i = regs-each (size s i) i pinOut (λ k t. refl) s
-
-regs-matchSet : (s : State) (i : ℕ) (w : Way) (t : ℕ) → (matchSet s i w t) .regs ≡ s .regs
-unfolding matchSet withPhase withChannel
-regs-matchSet s i w t = pick-cases (λ (x : State). x .regs ≡ s .regs) (due (s .tcr1) t) (λ a. regs-pins s i) (λ a. refl)
-
-regs-step : (s : State) (i reference : ℕ) (w : Way) (k : ℕ) → (stepped s i reference w k) .regs ≡ s .regs
-unfolding stepped prepared withLevel withChannel withWord withWords
-regs-step s i reference w k =
-    regs-matchSet _ i w _ ∙ regs-each (size s i) i (prepared w (nextCount w (modCount s i))) (λ j t. refl) _
-
-regs-matched : (i : ℕ) (s : State) → (matched i s) .regs ≡ s .regs
-unfolding matched matchOf withPhase withChannel
-regs-matched i s = by ((channel s i) .phase)
-  where
-    by : (p : Phase) → (matchOf p i s) .regs ≡ s .regs
-    by Resting = refl
-    by Requested = refl
-    by (Armed t) = pick-cases (λ (x : State). x .regs ≡ s .regs) (due (s .tcr1) t) (λ a. regs-pins s i) (λ a. refl)
-    by (Matched t) = refl
-
 module _ (i j : ℕ) (hi : i < 16) (hj : j < 16) (n : j ≢ i) where
   bits-status : (s : State) → Sized s → bits (withStatus s i) j ≡ bits s j
   unfolding bits
@@ -81,7 +52,7 @@ module _ (i j : ℕ) (hi : i < 16) (hj : j < 16) (n : j ≢ i) where
   bits-outcome : (s : State) (reference : ℕ) (o : Outcome) → Sized s → bits (outcome s i reference o) j ≡ bits s j
   unfolding outcome withPhase withChannel
   bits-outcome s reference Arrived z = bits-status _ (sized-phase s i _ _ z) ∙ bits-regs _ s j refl
-  bits-outcome s reference (Step w k) z = bits-regs _ s j (regs-step s i reference w k)
+  bits-outcome s reference (Step w k) z = bits-regs _ s j ((left-step s i reference w k) .regs)
 
   bits-initialise : (s : State) → Sized s → bits (initialise i s) j ≡ bits s j
   unfolding initialise withInitialised withChannel withWord withWords withPin withPins channelControl pinControl
@@ -207,4 +178,4 @@ module _ (j : ℕ) (s : State) (h : j < 16) (z : Sized s) (g : Going s) (rests :
   settled =
       let m : State = each 16 0 matched (clocked s) in
       services 16 0 (omega arith) m (fades-matches s z g) (omega arith)
-      (unbound-matches j s h z g rests apart 16 0 (omega arith) (clocked s) (fades-clocked s z g), bits-regs m s j (regs-each 16 0 matched regs-matched (clocked s))) .1 (omega arith)
+      (unbound-matches j s h z g rests apart 16 0 (omega arith) (clocked s) (fades-clocked s z g), bits-regs m s j ((left-each 16 0 matched left-matched (clocked s)) .regs)) .1 (omega arith)

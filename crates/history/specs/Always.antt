@@ -78,28 +78,26 @@ pub record Untouched (j : ℕ) (s t : State) : Type 0 where
 unfoldable pub Pending : ℕ → State → Type 0
 Pending j s = pending j s ≡ 2
 
--- and a step request, 11, in the same places
-unfoldable pub StepPending : ℕ → State → Type 0
-StepPending j s = field 2 (reg s (7 + (1 - j / 8))) (2 * (j % 8)) ≡ 3
-
 -- what is claimed of every list of calls that is `Listed`
 pub record AlwaysOf (Listed : List Call → Type 0) : Type 0 where
   -- a bound group is set up and shows its pattern
   pub shown : (calls : List Call) (s : State) → StateIn Listed calls s → (p : ℕ) → p < 16 → stepping s p ≡ true → GroupShown p s
   -- an initialised channel that is not bound shows bit 15 of its CHANNEL_CONTROL
-  pub rests : (calls : List Call) (s : State) → StateIn Listed calls s → (j : ℕ) → j < 16 → isBound s j ≡ false → (channel s j) .initialised ≡ true → pin s j ≡ bitOf (channelControl s j) 15
+  pub rests : (calls : List Call) (s : State) → StateIn Listed calls s → (j : ℕ) → j < 16 → isBound s j ≡ false → (channel s j) .initialised ≡ true
+      → pin s j ≡ bitOf (channelControl s j) 15
   -- where a tick changes a pin, its channel was initialised or a match of its group acted
   pub pins : (calls : List Call) (s : State) → StateIn Listed calls s → (j : ℕ) → j < 16 → pin (tick s) j ≢ pin s j → ByInitialise j s ⊎ ByMatch j s
   -- a position changes in a tick only while its group is under way, so only while each of its channels is set up
   pub moves : (calls : List Call) (s : State) → StateIn Listed calls s → (p : ℕ) → p < 16 → position (tick s) p ≢ position s p → (stepping s p ≡ true) × GroupShown p s
-  -- a step request is pending only of a group under way: at rest none is served, so no tick sets a motor going
-  pub under-way : (calls : List Call) (s : State) → StateIn Listed calls s → (p : ℕ) → p < 16 → StepPending p s → stepping s p ≡ true
+  -- a step request, 11, is pending only of a group under way, so that no tick sets a motor going
+  pub under-way : (calls : List Call) (s : State) → StateIn Listed calls s → (p : ℕ) → p < 16 → pending p s ≡ 3 → stepping s p ≡ true
   -- where a write sets a resting motor going, whatever else its word asks for, the state before it has the numbers of questions 2 to 9
   pub questions : (calls : List Call) (s : State) → StateIn Listed calls s → (c a v : ℕ) → SetsGoing c a v s → MayStep c s
   -- an initialise is done in the next tick in which its channel has a priority
   pub initialises : (calls : List Call) (s : State) → StateIn Listed calls s → (j : ℕ) → j < 16 → Pending j s → Enabled j s → InitialiseIs j s (tick s)
   -- a channel that is not bound, with no initialise pending or the priority 00, is left; and what is pending at 00 stays
-  pub untouched : (calls : List Call) (s : State) → StateIn Listed calls s → (j : ℕ) → j < 16 → isBound s j ≡ false → (Pending j s → Enabled j s → ⊥) → Untouched j s (tick s)
+  pub untouched : (calls : List Call) (s : State) → StateIn Listed calls s → (j : ℕ) → j < 16 → isBound s j ≡ false → (Pending j s → Enabled j s → ⊥)
+      → Untouched j s (tick s)
   pub waits : (calls : List Call) (s : State) → StateIn Listed calls s → (j : ℕ) → j < 16 → Pending j s → (Enabled j s → ⊥) → Pending j (tick s)
 
 -- of every list of calls whose written values are words

@@ -26,7 +26,8 @@ pub record CallsAre : Type 0 where
   -- a read returns the state, and so does a call that is refused; it leaves the lent list
   pub read-keeps : (s : State) (a : ℕ) → calls.after (Read a) s ≡ s
   pub write-keeps : (s : State) (a v n : ℕ) → (writeOf s a v) .answer ≡ Refused n → (writeOf s a v) .state ≡ s
-  pub advance-keeps : (s : State) (n : ℕ) (lent : List ℕ) (k : ℕ) → (advanceOf s n lent) .answer ≡ Refused k → ((advanceOf s n lent) .state ≡ s) × (lentAfter s n lent ≡ lent)
+  pub advance-keeps : (s : State) (n : ℕ) (lent : List ℕ) (k : ℕ) → (advanceOf s n lent) .answer ≡ Refused k → ((advanceOf s n lent) .state ≡ s)
+      × (lentAfter s n lent ≡ lent)
 
 -- ---- a run, cut anywhere
 

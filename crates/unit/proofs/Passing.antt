@@ -1,4 +1,4 @@
--- TCR1 in a tick: `time-passes`.
+-- What a match and a step leave alone, and TCR1 in a tick: `time-passes`.
 use Prim.Native.Nat.{ℕ, zero, suc, _+_, _%_}
 use native.Mathlib.Omega.{arith}
 use mathlib.Core.Path.{_≡_, refl, ap, _∙_}
@@ -16,33 +16,55 @@ use Rattle.unit.specs.Stepping.{pinOut, pinsOut, nextCount, prepared, ma
 use Rattle.unit.specs.OneTick.{matchOf, matched, initialise, stepRequest, requestServed, matchServed, served, clocked, tick, afterTicks}
 use Rattle.unit.specs.Passing.{TimePasses}
 
-time-each : (n a : ℕ) (f : ℕ → State → State) → ((i : ℕ) (t : State) → (f i t) .tcr1 ≡ t .tcr1) → (s : State) → (each n a f s) .tcr1 ≡ s .tcr1
+-- ---- a match and a step leave the registers and TCR1
+
+pub record Left (s t : State) : Type 0 where
+  pub regs : t .regs ≡ s .regs
+  pub time : t .tcr1 ≡ s .tcr1
+
+left-all : (s : State) → Left s s
+left-all s = record { regs = refl; time = refl }
+
+left-then : {s t u : State} → Left s t → Left t u → Left s u
+left-then x y = record { regs = y .regs ∙ x .regs; time = y .time ∙ x .time }
+
+pub left-each : (n a : ℕ) (f : ℕ → State → State) → ((i : ℕ) (t : State) → Left t (f i t)) → (s : State) → Left s (each n a f s)
 unfolding each
-time-each zero a f h s = refl
-time-each (suc n) a f h s = h (a + n) (each n a f s) ∙ time-each n a f h s
+left-each zero a f h s = left-all s
+left-each (suc n) a f h s = left-then (left-each n a f h s) (h (a + n) (each n a f s))
 
-time-pins : (s : State) (i : ℕ) → (pinsOut s i) .tcr1 ≡ s .tcr1
+left-pins : (s : State) (i : ℕ) → Left s (pinsOut s i)
 unfolding pinsOut pinOut withPin withPins
-time-pins s i = time-each (size s i) i pinOut (λ k t. refl) s
+left-pins s i = left-each (size s i) i pinOut (λ k t. record { regs = refl; time = refl }) s
 
-time-matchSet : (s : State) (i : ℕ) (w : Way) (t : ℕ) → (matchSet s i w t) .tcr1 ≡ s .tcr1
+left-matchSet : (s : State) (i : ℕ) (w : Way) (t : ℕ) → Left s (matchSet s i w t)
 unfolding matchSet withPhase withChannel
-time-matchSet s i w t = pick-cases (λ (x : State). x .tcr1 ≡ s .tcr1) (due (s .tcr1) t) (λ a. time-pins s i) (λ a. refl)
+left-matchSet s i w t =
+    pick-cases (Left s) (due (s .tcr1) t) (λ a. record { regs = (left-pins s i) .regs; time = (left-pins s i) .time }) (λ a. record { regs = refl; time = refl })
+
+pub left-step : (s : State) (i reference : ℕ) (w : Way) (k : ℕ) → Left s (stepped s i reference w k)
+unfolding stepped prepared withLevel withChannel withWord withWords
+left-step s i reference w k =
+    let x = left-each (size s i) i (prepared w (nextCount w (modCount s i))) (λ j t. record { regs = refl; time = refl }) _ in
+    let y = left-matchSet _ i w _ in
+    record { regs = y .regs ∙ x .regs; time = y .time ∙ x .time }
+
+pub left-matched : (i : ℕ) (s : State) → Left s (matched i s)
+unfolding matched matchOf withPhase withChannel
+left-matched i s = by ((channel s i) .phase)
+  where
+    by : (p : Phase) → Left s (matchOf p i s)
+    by Resting = left-all s
+    by Requested = left-all s
+    by (Armed t) = pick-cases (Left s) (due (s .tcr1) t) (λ a. record { regs = (left-pins s i) .regs; time = (left-pins s i) .time }) (λ a. left-all s)
+    by (Matched t) = left-all s
+
+-- ---- TCR1 in a service
 
 time-outcome : (s : State) (i reference : ℕ) (o : Outcome) → (outcome s i reference o) .tcr1 ≡ s .tcr1
-unfolding outcome stepped prepared withLevel withPhase withChannel withWord withWords withStatus withReg
+unfolding outcome withPhase withChannel withStatus withReg
 time-outcome s i reference Arrived = refl
-time-outcome s i reference (Step w k) = time-matchSet _ i w _ ∙ time-each (size s i) i (prepared w (nextCount w (modCount s i))) (λ j t. refl) _
-
-time-matched : (i : ℕ) (s : State) → (matched i s) .tcr1 ≡ s .tcr1
-unfolding matched matchOf withPhase withChannel
-time-matched i s = by ((channel s i) .phase)
-  where
-    by : (p : Phase) → (matchOf p i s) .tcr1 ≡ s .tcr1
-    by Resting = refl
-    by Requested = refl
-    by (Armed t) = pick-cases (λ (x : State). x .tcr1 ≡ s .tcr1) (due (s .tcr1) t) (λ a. time-pins s i) (λ a. refl)
-    by (Matched t) = refl
+time-outcome s i reference (Step w k) = (left-step s i reference w k) .time
 
 time-request : (i : ℕ) (s : State) → (requestServed i s) .tcr1 ≡ s .tcr1
 unfolding requestServed initialise stepRequest withInitialised withChannel withWord withWords withPin withPins withStatus withReg withRequest
@@ -66,9 +88,14 @@ time-served i s = pick-cases (λ (x : State). x .tcr1 ≡ s .tcr1) (enabled s i)
     by (Armed t) = refl
     by (Matched t) = time-outcome (requestServed i s) i t _
 
+services-time : (n a : ℕ) (s : State) → (each n a served s) .tcr1 ≡ s .tcr1
+unfolding each
+services-time zero a s = refl
+services-time (suc n) a s = time-served (a + n) (each n a served s) ∙ services-time n a s
+
 one : (s : State) → (tick s) .tcr1 ≡ (s .tcr1 + 1) % 65536
 unfolding tick clocked withTime later
-one s = time-each 16 0 served time-served _ ∙ time-each 16 0 matched time-matched (clocked s)
+one s = services-time 16 0 _ ∙ (left-each 16 0 matched left-matched (clocked s)) .time
 
 many : (s : State) (n : ℕ) → (afterTicks n s) .tcr1 % 65536 ≡ (s .tcr1 + n) % 65536
 unfolding afterTicks

@@ -66,7 +66,7 @@ pub exists-yes : (c i : ℕ) → Exists c i → exists c i ≡ true
 unfolding exists
 exists-yes c i = ⊎-elim (λ h. or-left (leb 14 c) (ltb i 6) (le-leb 14 c h)) (λ h. or-right (leb 14 c) (ltb i 6) (lt-ltb i 6 h))
 
-exists-not : (c i : ℕ) → c < 14 → 6 ≤ i → exists c i ≡ false
+pub exists-not : (c i : ℕ) → c < 14 → 6 ≤ i → exists c i ≡ false
 unfolding exists
 exists-not c i h l = rw (fails (leb 14 c) (λ t. omega (arith, tests)), fails (ltb i 6) (λ t. omega (arith, tests)))
 

@@ -6,7 +6,7 @@ use mathlib.Core.Bool.{Bool, true, false}
 use mathlib.Core.Path.{_≡_, refl, ap, sym, subst, _∙_}
 use mathlib.Core.Logic.{_≢_, ⊎-elim}
 use lib.Dec.{eqb, leb}
-use borrow.Author.Tests.{le-leb, eq-eqb, ne-eqb, eqb-true, eqb-false}
+use borrow.Author.Tests.{le-leb, ne-eqb, eqb-true, eqb-false}
 use Rattle.words.specs.Choice.{pick}
 use Rattle.words.specs.Field.{field}
 use Rattle.words.proofs.ChoiceLaws.{pick-cases, not-both, fails, tests}
@@ -18,24 +18,16 @@ use Rattle.unit.specs.declared.Channel.{Channel}
 use Rattle.unit.specs.declared.Answered.{Answered}
 use Rattle.unit.specs.declared.Deed.the-variants.{Request}
 use Rattle.unit.specs.declared.Place.the-variants.{AtRegister}
-use Rattle.unit.specs.TheUnit.{withReg, withChannel, each, hsrrOf, reg, request, withRequest, channel, withPhase, stepping}
+use Rattle.unit.specs.TheUnit.{withReg, withChannel, each, hsrrOf, reg, function, request, withRequest, channel, withPhase, stepping}
 use Rattle.unit.specs.Gate.{place, requested, Asked, Yes, No, askChannels, verdictOf, askRegister, askPlace, requestedOne, done}
 use Rattle.unit.specs.Calls.{answeredBy, writeOf, isTaken}
 use Rattle.unit.specs.Takes.{Pends, requestAddress}
 use Rattle.unit.proofs.Reset.{Sized}
-use Rattle.unit.proofs.Access.{sized-reg, sized-channel, sized-each, channel-same, channel-other, request-same, request-other}
+use Rattle.unit.proofs.Binding.{binds}
+use Rattle.unit.proofs.Access.{sized-reg, sized-channel, sized-each, channel-other, hsrr-range, request-same, request-other, function-reg}
 use Rattle.unit.proofs.Readings.{register-place, write-at}
 
 -- ---- one channel's request
-
--- a step request leaves its channel under way, whether it was before or not
-binds : (s : State) (c : ℕ) → c < 16 → Sized s → stepping (requested s c 3) c ≡ true
-unfolding requested stepping withRequest withReg withPhase bound channel
-binds s c h z = by (stepping s c) refl
-  where
-    by : (b : Bool) → stepping s c ≡ b → stepping (pick b s (withPhase s c ((channel s c) .way) Requested)) c ≡ true
-    by true t = t
-    by false t = ap (λ (x : Channel). bound (x .phase)) (channel-same s c _ h z)
 
 sized-bound : (s : State) (c : ℕ) → Sized s → Sized (pick (stepping s c) s (withPhase s c ((channel s c) .way) Requested))
 unfolding withPhase
@@ -47,40 +39,73 @@ sized-requested c r s z =
     pick-cases Sized (eqb r 2) (λ a. sized-reg s _ _ z) (λ a. pick-cases Sized (eqb r 3) (λ b. sized-reg _ _ _ (sized-bound s c z)) (λ b. z))
 
 -- what a request of another channel leaves of c
-record Same (c : ℕ) (s t : State) : Type 0 where
-  pending : request t c ≡ request s c
-  going : stepping t c ≡ stepping s c
+pub record Same (c : ℕ) (s t : State) : Type 0 where
+  pub pending : request t c ≡ request s c
+  pub going : stepping t c ≡ stepping s c
+  pub set-up : (channel t c) .initialised ≡ (channel s c) .initialised
+  pub stepper : function t c ≡ function s c
+  pub words : t .words ≡ s .words
+
+same : (c : ℕ) (s : State) → Same c s s
+same c s = record { pending = refl; going = refl; set-up = refl; stepper = refl; words = refl }
+
+then-same : (c : ℕ) (s t u : State) → Same c s t → Same c t u → Same c s u
+then-same c s t u p q =
+    record {
+      pending = q .pending ∙ p .pending;
+      going = q .going ∙ p .going;
+      set-up = q .set-up ∙ p .set-up;
+      stepper = q .stepper ∙ p .stepper;
+      words = q .words ∙ p .words;
+    }
 
 module _ (j c : ℕ) (hj : j < 16) (hc : c < 16) (n : c ≢ j) where
   other-stores : (s : State) (r : ℕ) → Sized s → Same c s (withRequest s j r)
   unfolding stepping withRequest withReg channel
-  other-stores s r z = record { pending = request-other s j r c hj hc n z; going = refl }
+  other-stores s r z =
+      record {
+        pending = request-other s j r c hj hc n z;
+        going = refl;
+        set-up = refl;
+        stepper = function-reg s (hsrrOf j) _ c (omega (arith, hsrr-range j));
+        words = refl;
+      }
 
   other-steps : (s : State) (b : Bool) → Sized s → Same c s (withRequest (pick b s (withPhase s j ((channel s j) .way) Requested)) j 3)
-  unfolding stepping request reg withPhase withChannel
+  unfolding stepping request function reg withPhase withChannel
   other-steps s true z = other-stores s 3 z
   other-steps s false z =
       let t : State = withPhase s j ((channel s j) .way) Requested in
-      let k : Same c t (withRequest t j 3) = other-stores t 3 (sized-channel s j _ z) in
-      record { pending = k .pending; going = k .going ∙ ap (λ (x : Channel). bound (x .phase)) (channel-other s j _ c n) }
+      let e : channel t c ≡ channel s c = channel-other s j _ c n in
+      let k : Same c s t = record { pending = refl; going = ap (λ (x : Channel). bound (x .phase)) e; set-up = ap (λ (x : Channel). x .initialised) e; stepper = refl; words = refl } in
+      then-same c s t (withRequest t j 3) k (other-stores t 3 (sized-channel s j _ z))
 
   other-same : (s : State) (r : ℕ) → Sized s → Same c s (requested s j r)
   unfolding requested
   other-same s r z =
       pick-cases (Same c s) (eqb r 2) (λ a. other-stores s 2 z)
-      (λ a. pick-cases (Same c s) (eqb r 3) (λ b. other-steps s (stepping s j) z) (λ b. record { pending = refl; going = refl }))
+      (λ a. pick-cases (Same c s) (eqb r 3) (λ b. other-steps s (stepping s j) z) (λ b. same c s))
 
 -- what the word's two bits r for c come to, from s to t
-record Comes (c r : ℕ) (s t : State) : Type 0 where
-  asked : 2 ≤ r → request t c ≡ r
-  left : r < 2 → request t c ≡ request s c
-  goes : r ≡ 3 → stepping t c ≡ true
+pub record Comes (c r : ℕ) (s t : State) : Type 0 where
+  pub asked : 2 ≤ r → request t c ≡ r
+  pub left : r < 2 → request t c ≡ request s c
+  pub goes : r ≡ 3 → stepping t c ≡ true
+  pub stays : r ≢ 3 → stepping t c ≡ stepping s c
 
 own-comes : (s : State) (c r : ℕ) → c < 16 → r < 4 → Sized s → Comes c r s (requested s c r)
-unfolding requested
+unfolding requested stepping channel withRequest withReg
 own-comes s c r h l z =
-    record { asked = λ m. stores m; left = λ m. ap (λ t. request t c) (asks-nothing m); goes = λ m. subst (λ k. stepping (requested s c k) c ≡ true) (sym m) (binds s c h z) }
+    record {
+      asked = λ m. stores m;
+      left = λ m. ap (λ t. request t c) (asks-nothing m);
+      goes = λ m. subst (λ k. stepping (requested s c k) c ≡ true) (sym m) (binds s c h z);
+      stays = λ n. pick-cases Still (eqb r 2) (λ a. refl) (λ a. pick-cases Still (eqb r 3) (λ b. absurd (n (eqb-true r 3 b))) (λ b. refl));
+    }
   where
+    Still : State → Type 0
+    Still t = stepping t c ≡ stepping s c
+
     stores : 2 ≤ r → request (requested s c r) c ≡ r
     stores m =
         pick-cases (λ t. request t c ≡ r) (eqb r 2) (λ a. request-same s c 2 (omega arith) z ∙ sym (eqb-true r 2 a))
@@ -92,7 +117,7 @@ own-comes s c r h l z =
 
 -- ---- the eight of a word
 
-module _ (v a c : ℕ) (s : State) (z : Sized s) (top : a + 8 ≤ 16) (low : a ≤ c) (small : c < 16) where
+module _ (v a c : ℕ) (s : State) (z : Sized s) (top : a + 8 ≤ 16) (small : c < 16) where
   abbrev after : ℕ → State
   after n = each n a (requestedOne v) s
 
@@ -100,30 +125,29 @@ module _ (v a c : ℕ) (s : State) (z : Sized s) (top : a + 8 ≤ 16) (low : a �
   unfolding requestedOne
   sized-after n = sized-each n a (requestedOne v) (λ j t q. sized-requested j _ t q) s z
 
-  not-yet : (n : ℕ) → a + n ≤ c → Same c s (after n)
+  -- a channel that is none of the first n
+  pub not-yet : (n : ℕ) → n ≤ 8 → ((k : ℕ) → k < n → c ≢ a + k) → Same c s (after n)
   unfolding each requestedOne
-  not-yet zero h = record { pending = refl; going = refl }
-  not-yet (suc n) h =
-      let p : Same c s (after n) = not-yet n (omega arith) in
-      let q : Same c (after n) (after (suc n)) = other-same (a + n) c (omega arith) small (omega arith) (after n) _ (sized-after n) in
-      record { pending = q .pending ∙ p .pending; going = q .going ∙ p .going }
+  not-yet zero m h = same c s
+  not-yet (suc n) m h =
+      then-same c s (after n) _ (not-yet n (omega arith) (λ k l. h k (omega arith))) (other-same (a + n) c (omega arith) small (h n (omega arith)) (after n) _ (sized-after n))
 
-  comes : (n : ℕ) → n ≤ 8 → c < a + n → Comes c (field 2 v (2 * (c % 8))) s (after n)
+  pub comes : (n : ℕ) → n ≤ 8 → a ≤ c → c < a + n → Comes c (field 2 v (2 * (c % 8))) s (after n)
   unfolding each requestedOne
-  comes zero m h = absurd (omega arith)
-  comes (suc n) m h = ⊎-elim (λ e. here e) (λ e. there e (comes n (omega arith) e)) (eq-or-lt-of-le (let k : c ≤ a + n = omega arith in k))
+  comes zero m low h = absurd (omega arith)
+  comes (suc n) m low h = ⊎-elim (λ e. here e) (λ e. there e (comes n (omega arith) low e)) (eq-or-lt-of-le (let k : c ≤ a + n = omega arith in k))
     where
       here : c ≡ a + n → Comes c (field 2 v (2 * (c % 8))) s (requested (after n) (a + n) (field 2 v (2 * ((a + n) % 8))))
       here e =
-          let p : Same c s (after n) = not-yet n (omega arith) in
+          let p : Same c s (after n) = not-yet n (omega arith) (λ k l. omega arith) in
           let q : Comes c (field 2 v (2 * (c % 8))) (after n) (requested (after n) c (field 2 v (2 * (c % 8)))) = own-comes (after n) c _ small (field-lt 2 v (2 * (c % 8))) (sized-after n) in
           subst (λ j. Comes c (field 2 v (2 * (c % 8))) s (requested (after n) j (field 2 v (2 * (j % 8))))) e
-          record { asked = q .asked; left = λ l. q .left l ∙ p .pending; goes = q .goes }
+          record { asked = q .asked; left = λ l. q .left l ∙ p .pending; goes = q .goes; stays = λ l. q .stays l ∙ p .going }
 
       there : c < a + n → Comes c (field 2 v (2 * (c % 8))) s (after n) → Comes c (field 2 v (2 * (c % 8))) s (requested (after n) (a + n) (field 2 v (2 * ((a + n) % 8))))
       there l p =
           let q : Same c (after n) (requested (after n) (a + n) (field 2 v (2 * ((a + n) % 8)))) = other-same (a + n) c (omega arith) small (omega arith) (after n) _ (sized-after n) in
-          record { asked = λ x. q .pending ∙ p .asked x; left = λ x. q .pending ∙ p .left x; goes = λ x. q .going ∙ p .goes x }
+          record { asked = λ x. q .pending ∙ p .asked x; left = λ x. q .pending ∙ p .left x; goes = λ x. q .going ∙ p .goes x; stays = λ x. q .going ∙ p .stays x }
 
 -- ---- the write
 
@@ -154,5 +178,5 @@ pends s c v z h t =
     let e = request-write s c v h in
     let q : (writeOf s (requestAddress c) v) .state ≡ each 8 (8 * (c / 8)) (requestedOne v) s =
     ap (λ (x : Answered). x .state) e ∙ taken-state (askChannels 8 (8 * (c / 8)) v s) (8 * (c / 8)) v s (ap (λ (x : Answered). isTaken (x .answer)) (sym e) ∙ t) in
-    let k : Comes c (field 2 v (2 * (c % 8))) s (each 8 (8 * (c / 8)) (requestedOne v) s) = comes v (8 * (c / 8)) c s z (omega arith) (omega arith) h 8 (omega arith) (omega arith) in
+    let k : Comes c (field 2 v (2 * (c % 8))) s (each 8 (8 * (c / 8)) (requestedOne v) s) = comes v (8 * (c / 8)) c s z (omega arith) h 8 (omega arith) (omega arith) (omega arith) in
     subst (Pends c v s) (sym q) record { asked = k .asked; left = k .left; goes = k .goes }

@@ -6,43 +6,33 @@ use mathlib.Core.Bool.{Bool, true, false, not, _&&_, _||_}
 use mathlib.Core.Path.{_≡_, refl, ap, sym, subst, _∙_}
 use mathlib.Core.Logic.{_≢_, _⊎_, ⊎-elim}
 use mathlib.Core.List.{List}
-use lib.Dec.{eqb, leb, ltb}
+use lib.Dec.{eqb, leb}
 use lib.ListN.{getD, length}
-use borrow.Author.Tests.{le-leb, lt-ltb, eq-eqb, ne-eqb, eqb-true, eqb-false, leb-true, ltb-true}
+use borrow.Author.Tests.{le-leb, eq-eqb, ne-eqb, eqb-true, eqb-false, leb-true}
 use Rattle.words.specs.Choice.{pick, ask}
-use Rattle.words.specs.Field.{field, bitOf}
-use Rattle.words.specs.Rotation.{rotatedRight}
+use Rattle.words.specs.Field.{field}
 use Rattle.words.proofs.ChoiceLaws.{not-both, fails, and-left, and-right}
-use Rattle.words.proofs.FieldLaws.{field-lt, words-equal}
-use Rattle.words.proofs.RotationLaws.{right-bit, right-fits}
-use Rattle.motor.specs.Stepping.{period}
+use Rattle.words.proofs.FieldLaws.{field-lt}
 use Rattle.unit.specs.declared.State.{State}
 use Rattle.unit.specs.declared.Deed.{Deed}
+use Rattle.unit.specs.declared.Deed.the-variants.{Register, Keep}
 use Rattle.unit.specs.declared.Verdict.the-variants.{Taken as Does, Refused as Stops}
 use Rattle.unit.specs.declared.Place.the-variants.{AtRegister, AtWord, Nowhere}
 use Rattle.unit.specs.declared.Answer.the-variants.{Taken, Refused}
 use Rattle.unit.specs.declared.Answer.{Answer}
 use Rattle.unit.specs.declared.Answered.{Answered}
 use Rattle.unit.specs.OneTick.{afterTicks}
-use Rattle.unit.specs.TheUnit.{all, cfsrOf, hsrrOf, reg, function, request, channel, word, channelControl, pinControl, target, modCount, nextRate, top, last, cntl0, cntl1, size, exists, stepping, isBound}
-use Rattle.unit.specs.Gate.{isFree, isStepper, mayInitialise, otherwiseZero, spanGood, isReady, groupReady, showsPattern, patternGood, rampGood, targetGood, advanceGood, requested, Asked, Yes, No, askInitialise, askStep, askChannel, andThen, askChannels, verdictOf, keepsOrFree, askRegister, askWord, askPlace}
+use Rattle.unit.specs.TheUnit.{all, each, cisr, cfsrOf, hsrrOf, reg, function, request, word, target, top, exists, stepping, isBound}
+use Rattle.unit.specs.Gate.{isFree, isStepper, targetGood, advanceGood, requested, Asked, Yes, No, askInitialise, askStep, askChannel, andThen, askChannels, verdictOf, keepsOrFree, askRegister, askWord, askPlace, requestedOne, done}
 use Rattle.unit.specs.Calls.{answeredBy, writeOf, isTaken, advanceOf}
 use Rattle.unit.specs.Readings.{registerAddress, wordAddress, Listed, Exists}
-use Rattle.unit.specs.Takes.{Free, Stepper, MayInitialise, Member, MayStep, AsksOne, requestAddress, StepNumbers, InitialiseNumbers, Takes}
-use Rattle.unit.proofs.Tests.{not-yes, all-yes, or-none, or-right}
+use Rattle.unit.specs.Takes.{Free, Stepper, MayInitialise, MayStep, MayRepeat, AsksOne, Together, requestAddress, StepNumbers, InitialiseNumbers, Takes}
+use Rattle.unit.proofs.Tests.{and-both, all-yes, or-right}
+use Rattle.unit.proofs.Reset.{Sized}
 use Rattle.unit.proofs.Requests.{request-write, pends}
-use Rattle.unit.proofs.Readings.{register-place, word-place, outside-place, exists-yes, write-at}
-
-and-both : {a b : Bool} → a ≡ true → b ≡ true → (a && b) ≡ true
-and-both x y = rw (x, y) refl
-
-not-no : {b : Bool} → b ≡ false → not b ≡ true
-not-no e = rw e refl
-
-all-all : (f : ℕ → Bool) (n a : ℕ) → ((p : ℕ) → a ≤ p → p < a + n → f p ≡ true) → all n a f ≡ true
-unfolding all
-all-all f zero a h = refl
-all-all f (suc n) a h = and-both (all-all f n a (λ p x y. h p x (omega arith))) (h (a + n) (omega arith) (omega arith))
+use Rattle.unit.proofs.Together.{above-same, initialise-after, step-after, group-bound}
+use Rattle.unit.proofs.Readings.{register-place, word-place, outside-place, exists-yes, exists-not, write-at}
+use Rattle.unit.proofs.Questions.{sized, all-all, isYes, answerOf, yes-asks, or-second, free-is, is-free, stepper-is, is-stepper, is-still, initialise-asks, is-initialise, step-asks, is-repeat, is-step}
 
 -- ---- question 10
 
@@ -62,37 +52,7 @@ advance-good : (n : ℕ) (lent : List ℕ) → n ≤ 4096 → n ≤ length lent 
 unfolding advanceGood
 advance-good n lent a b = and-both (le-leb n 4096 a) (le-leb n (length lent) b)
 
--- ---- question 4
-
-initialise-may : (c : ℕ) (s : State) → Free c s → Stepper c s → mayInitialise s c ≡ true → MayInitialise c s
-unfolding mayInitialise channelControl pinControl bitOf
-initialise-may c s f t e =
-    let q : field 2 (word s c 0) 0 ≡ pick (eqb (field 1 (word s c 1) 15) 1) 1 2 = eqb-true _ _ (and-right (eqb (field 4 (word s c 0) 5) 4) _ e) in
-    record {
-      free = f;
-      stepper = t;
-      fixed = eqb-true _ 4 (and-left (eqb (field 4 (word s c 0) 5) 4) _ e);
-      high = λ b. q ∙ ap (λ y. pick y 1 2) (eq-eqb _ 1 b);
-      low = λ b. q ∙ ap (λ y. pick y 1 2) (ne-eqb (field 1 (word s c 1) 15) 1 (λ d. omega arith));
-    }
-
-initialise-good : (c : ℕ) (s : State) → MayInitialise c s → mayInitialise s c ≡ true
-unfolding mayInitialise channelControl pinControl bitOf
-initialise-good c s x = and-both (eq-eqb _ 4 (x .fixed)) (eq-eqb _ _ (by (eqb (field 1 (word s c 1) 15) 1) refl))
-  where
-    by : (b : Bool) → eqb (field 1 (word s c 1) 15) 1 ≡ b → field 2 (word s c 0) 0 ≡ pick b 1 2
-    by true t = x .high (eqb-true _ 1 t)
-    by false t = let n : field 1 (word s c 1) 15 ≢ 1 = eqb-false _ 1 t in x .low (omega (arith, field-lt 1 (word s c 1) 15))
-
 -- ---- a word that asks one channel
-
-unfoldable isYes : Asked → Bool
-isYes (Yes w) = true
-isYes (No n) = false
-
-unfoldable answerOf : Asked → Answer
-answerOf (Yes w) = Taken
-answerOf (No n) = Refused n
 
 verdict-answer : (k : Asked) (d : Deed) (s : State) → (answeredBy (verdictOf k d) s) .answer ≡ answerOf k
 unfolding answerOf verdictOf answeredBy
@@ -140,182 +100,70 @@ module _ (r c v : ℕ) (x : AsksOne r c v) (s : State) where
   request-taken : isTaken ((writeOf s (requestAddress c) v) .answer) ≡ isYes (askChannel r c s)
   request-taken = ap isTaken request-answer ∙ answer-taken (askChannel r c s)
 
--- ---- questions in sequence
+-- ---- a word that asks several channels
 
-ask-first : (q : Bool) (n : ℕ) (k : Asked) → isYes (ask q (No n) k) ≡ true → q ≡ true
-unfolding ask isYes
-ask-first true n k e = refl
-ask-first false n k e = absurd (not-both e refl)
-
-ask-rest : (q : Bool) (n : ℕ) (k : Asked) → isYes (ask q (No n) k) ≡ true → isYes k ≡ true
-unfolding ask isYes
-ask-rest true n k e = e
-ask-rest false n k e = absurd (not-both e refl)
-
-yes-asks : (q : Bool) (w : State) → isYes (ask q (No 3) (Yes w)) ≡ q
-unfolding ask isYes
-yes-asks true w = refl
-yes-asks false w = refl
-
-or-second : (a b : Bool) → (a || b) ≡ true → a ≡ false → b ≡ true
-or-second true b e f = absurd (not-both refl f)
-or-second false b e f = e
-
--- ---- each question in numbers
-
-free-is : (j : ℕ) (s : State) → isFree s j ≡ true → Free j s
-unfolding isFree request hsrrOf
-free-is j s e = record { unbound = not-yes (isBound s j) (and-left (not (isBound s j)) _ e); none = eqb-true _ 0 (and-right (not (isBound s j)) _ e) }
-
-is-free : (j : ℕ) (s : State) → Free j s → isFree s j ≡ true
-unfolding isFree request hsrrOf
-is-free j s x = and-both (not-no (x .unbound)) (eq-eqb _ 0 (x .none))
-
-stepper-is : (j : ℕ) (s : State) → isStepper s j ≡ true → Stepper j s
-unfolding isStepper function cfsrOf Stepper
-stepper-is j s e = eqb-true _ 13 e
-
-is-stepper : (j : ℕ) (s : State) → Stepper j s → isStepper s j ≡ true
-unfolding isStepper function cfsrOf Stepper
-is-stepper j s e = eq-eqb _ 13 e
-
--- initialise
-
-initialise-asks : (c : ℕ) (s : State) → isYes (askInitialise s c) ≡ true → MayInitialise c s
-unfolding askInitialise
-initialise-asks c s e =
-    let e3 : isYes (ask (isStepper s c) (No 3) (ask (mayInitialise s c) (No 4) (Yes (requested s c 2)))) ≡ true = ask-rest (isFree s c) 2 _ e in
-    may (free-is c s (ask-first (isFree s c) 2 _ e)) (stepper-is c s (ask-first (isStepper s c) 3 _ e3)) (ask-first (mayInitialise s c) 4 _ (ask-rest (isStepper s c) 3 _ e3))
+is-asked : (r c : ℕ) (s : State) → ((k : ℕ) → getD (s .words) k 0 ≤ 0xffff) → (r ≡ 2 → MayInitialise c s) → (r ≡ 3 → MayStep c s ⊎ MayRepeat c s) → askChannel r c s ≡ Yes (requested s c r)
+unfolding askChannel requested
+is-asked r c s w f g = by (eqb r 2) refl (eqb r 3) refl
   where
-    may : Free c s → Stepper c s → mayInitialise s c ≡ true → MayInitialise c s
-    may f t q = initialise-may c s f t q
+    by : (x : Bool) → eqb r 2 ≡ x → (y : Bool) → eqb r 3 ≡ y → askChannel r c s ≡ Yes (requested s c r)
+    by true x y d = let e : r ≡ 2 = eqb-true r 2 x in subst (λ k. askChannel k c s ≡ Yes (requested s c k)) (sym e) (is-initialise c s (f e))
+    by false x true d = let e : r ≡ 3 = eqb-true r 3 d in subst (λ k. askChannel k c s ≡ Yes (requested s c k)) (sym e) (⊎-elim (is-step c s w) (is-repeat c s) (g e))
+    by false x false d = rw (x, d) refl
 
-is-initialise : (c : ℕ) (s : State) → MayInitialise c s → isYes (askInitialise s c) ≡ true
-unfolding askInitialise ask isYes
-is-initialise c s x = rw (is-free c s (x .free), is-stepper c s (x .stepper), initialise-good c s x) refl
+requests-answer : (s : State) (i v : ℕ) → 7 ≤ i → i ≤ 8 → (writeOf s (registerAddress i) v) .answer ≡ answerOf (askChannels 8 (8 * (8 - i)) v s)
+requests-answer s i v a b =
+    let e : registerAddress i ≡ requestAddress (8 * (8 - i)) = omega arith in
+    let q : 8 * (8 * (8 - i) / 8) ≡ 8 * (8 - i) = omega arith in
+    ap (λ k. (writeOf s k v) .answer) e
+    ∙ ap (λ (k : Answered). k .answer) (request-write s (8 * (8 - i)) v (omega arith))
+    ∙ verdict-answer (askChannels 8 (8 * (8 * (8 - i) / 8)) v s) _ s
+    ∙ ap (λ k. answerOf (askChannels 8 k v s)) q
 
--- a step
+module _ (i v m : ℕ) (s : State) (z : Sized s) (words : (k : ℕ) → getD (s .words) k 0 ≤ 0xffff) (a : 7 ≤ i) (b : i ≤ 8) (x : Together i v m s) where
+  asked-together : (n : ℕ) → n ≤ 8 → 8 * (8 - i) + n ≤ m → askChannels n (8 * (8 - i)) v s ≡ Yes (each n (8 * (8 - i)) (requestedOne v) s)
+  unfolding askChannels each requestedOne andThen
+  asked-together zero l h = refl
+  asked-together (suc n) l h =
+      let t : State = each n (8 * (8 - i)) (requestedOne v) s in
+      let e : t .words ≡ s .words = above-same i v n s z a b (omega arith) (8 * (8 - i) + n) (omega arith) (omega arith) .words in
+      ap (λ k. andThen k (askChannel (field 2 v (2 * ((8 * (8 - i) + n) % 8))) (8 * (8 - i) + n))) (asked-together n (omega arith) (omega arith))
+      ∙ is-asked _ (8 * (8 - i) + n) t (subst (λ y. (k : ℕ) → getD y k 0 ≤ 0xffff) (sym e) words)
+      (initialise-after i v n s z a b (omega arith) m x (omega arith) (omega arith)) (step-after i v n s z a b (omega arith) m x (omega arith) (omega arith))
 
-zero-is : (w : ℕ) → otherwiseZero w ≡ true → (field 4 w 12 ≡ 0) × (field 4 w 4 ≡ 0)
-unfolding otherwiseZero
-zero-is w e = (eqb-true _ 0 (and-left (eqb (field 4 w 12) 0) _ e), eqb-true _ 0 (and-right (eqb (field 4 w 12) 0) _ e))
+  -- the next one, in the group of a lower one that is set going
+  module _ (c : ℕ) (q : c / 8 ≡ 8 - i) (e : field 2 v (2 * (c % 8)) ≡ 3) (y : MayStep c s) where
+    asked-within : (n : ℕ) → n < 8 → c < 8 * (8 - i) + n → 8 * (8 - i) + n ≤ field 4 (word s c 5) 0 → 2 ≤ field 2 v (2 * ((8 * (8 - i) + n) % 8))
+        → askChannel (field 2 v (2 * ((8 * (8 - i) + n) % 8))) (8 * (8 - i) + n) (each n (8 * (8 - i)) (requestedOne v) s) ≡ No 2
+    unfolding askChannel askInitialise askStep ask isFree
+    asked-within n l k h g = by (eqb (field 2 v (2 * (j % 8))) 2) refl
+      where
+        j : ℕ
+        j = 8 * (8 - i) + n
 
-is-zero : (w : ℕ) → (field 4 w 12 ≡ 0) × (field 4 w 4 ≡ 0) → otherwiseZero w ≡ true
-unfolding otherwiseZero
-is-zero w x = and-both (eq-eqb _ 0 (x .0)) (eq-eqb _ 0 (x .1))
+        t : State
+        t = each n (8 * (8 - i)) (requestedOne v) s
 
-module _ (c : ℕ) (s : State) (words : (k : ℕ) → getD (s .words) k 0 ≤ 0xffff) where
-  small : (j i : ℕ) → word s j i ≤ 0xffff
-  unfolding word
-  small j i = words (8 * j + i)
+        reached : isBound t j ≡ true
+        reached = group-bound i v n s z a b (omega arith) c j q k e (omega arith) (omega arith) h
 
-  member-is : (j : ℕ) → isReady s j ≡ true → showsPattern s (modCount s c) j ≡ true → Member (field 4 (word s c 4) 8) j s
-  unfolding isReady showsPattern channelControl pinControl modCount
-  member-is j r p =
-      let e : word s j 0 ≡ rotatedRight (word s j 1) (field 4 (word s c 4) 8) = eqb-true _ _ p in
-      let q : ((channel s j) .initialised && isFree s j) ≡ true = and-right (isStepper s j) _ r in
-      record {
-        free = free-is j s (and-right ((channel s j) .initialised) _ q);
-        stepper = stepper-is j s (and-left (isStepper s j) _ r);
-        initialised = and-left ((channel s j) .initialised) _ q;
-        pattern = λ i l. ap (λ w. field 1 w i) e ∙ right-bit (word s j 1) (field 4 (word s c 4) 8) i (omega (arith, small j 1)) (omega (arith, field-lt 4 (word s c 4) 8)) l;
-      }
+        still : stepping t j ≡ false
+        still = above-same i v n s z a b (omega arith) j (omega arith) (omega arith) .going ∙ is-still j s (y .group j (omega arith) h .free .unbound)
 
-  is-ready : (m j : ℕ) → Member m j s → isReady s j ≡ true
-  unfolding isReady
-  is-ready m j x = and-both (is-stepper j s (x .stepper)) (and-both (x .initialised) (is-free j s (x .free)))
+        by : (d : Bool) → eqb (field 2 v (2 * (j % 8))) 2 ≡ d → askChannel (field 2 v (2 * (j % 8))) j t ≡ No 2
+        by true d = rw (d, reached) refl
+        by false d =
+            let w : field 2 v (2 * (j % 8)) ≢ 2 = eqb-false _ 2 d in
+            rw (d, eq-eqb (field 2 v (2 * (j % 8))) 3 (omega (arith, field-lt 2 v (2 * (j % 8)))), still, reached) refl
 
-  is-shown : (m j : ℕ) → m < 16 → Member m j s → showsPattern s m j ≡ true
-  unfolding showsPattern channelControl pinControl
-  is-shown m j h x =
-      eq-eqb _ _ (words-equal 16 (word s j 0) (rotatedRight (word s j 1) m) (omega (arith, small j 0)) (right-fits (word s j 1) m (omega (arith, small j 1)) (omega arith))
-      (λ i l. x .pattern i l ∙ sym (right-bit (word s j 1) m i (omega (arith, small j 1)) (omega arith) l)))
-
-  pub step-may : spanGood s c ≡ true → groupReady s c ≡ true → patternGood s c ≡ true → rampGood (cntl0 s c) (cntl1 s c) (top s c) ≡ true → targetGood s c (target s c) ≡ true → MayStep c s
-  unfolding spanGood groupReady patternGood rampGood targetGood period cntl0 cntl1 top last target nextRate size
-  step-may q5 q6 q7 q8 q9 =
-      let a5 : (otherwiseZero (word s c 5) && (leb 1 (field 4 (word s c 5) 8) && leb (field 4 (word s c 5) 8) 14)) ≡ true = and-left (otherwiseZero (word s c 5) && (leb 1 (field 4 (word s c 5) 8) && leb (field 4 (word s c 5) 8) 14)) _ q5 in
-      let b5 : (leb 1 (field 4 (word s c 5) 8) && leb (field 4 (word s c 5) 8) 14) ≡ true = and-right (otherwiseZero (word s c 5)) _ a5 in
-      let c5 : (ltb c (field 4 (word s c 5) 0) && leb (field 4 (word s c 5) 0) (c + 7)) ≡ true = and-right (otherwiseZero (word s c 5) && (leb 1 (field 4 (word s c 5) 8) && leb (field 4 (word s c 5) 8) 14)) _ q5 in
-      let a7 : (otherwiseZero (word s c 4) && eqb (field 4 (word s c 4) 0) 1) ≡ true = and-left (otherwiseZero (word s c 4) && eqb (field 4 (word s c 4) 0) 1) _ q7 in
-      let n : ℕ = field 4 (word s c 5) 8 in
-      let l : field 4 (word s c 5) 8 ≤ 14 = leb-true (field 4 (word s c 5) 8) 14 (and-right (leb 1 (field 4 (word s c 5) 8)) _ b5) in
-      let p8 : 1 ≤ word s (suc c) 3 - word s (suc c) 2 * (1 + field 4 (word s c 5) 8) = leb-true 1 _ (and-left (leb 1 (word s (suc c) 3 - word s (suc c) 2 * (1 + field 4 (word s c 5) 8))) _ q8) in
-      let r8 : word s (suc c) 3 - word s (suc c) 2 * (1 + 1) ≤ 0x7fff = leb-true _ 0x7fff (and-right (leb 1 (word s (suc c) 3 - word s (suc c) 2 * (1 + field 4 (word s c 5) 8))) _ q8) in
-      let p9 : word s c 3 ≤ 0xffff - field 4 (word s c 5) 8 = leb-true _ _ q9 in
-      record {
-        zero5 = zero-is (word s c 5) (and-left (otherwiseZero (word s c 5)) _ a5);
-        least = leb-true 1 (field 4 (word s c 5) 8) (and-left (leb 1 (field 4 (word s c 5) 8)) _ b5);
-        most = l;
-        above = ltb-true c (field 4 (word s c 5) 0) (and-left (ltb c (field 4 (word s c 5) 0)) _ c5);
-        near = leb-true (field 4 (word s c 5) 0) (c + 7) (and-right (ltb c (field 4 (word s c 5) 0)) _ c5);
-        zero4 = zero-is (word s c 4) (and-left (otherwiseZero (word s c 4)) _ a7);
-        slow = eqb-true _ 1 (and-right (otherwiseZero (word s c 4)) _ a7);
-        group = λ j a b. member-is j (all-yes (isReady s) j (suc (field 4 (word s c 5) 0) - c) c a (omega arith) q6)
-            (all-yes (showsPattern s (modCount s c)) j (suc (field 4 (word s c 5) 0) - c) c a (omega arith) (and-right (otherwiseZero (word s c 4) && eqb (field 4 (word s c 4) 0) 1) _ q7));
-        fastest = omega arith;
-        slowest = omega arith;
-        target = omega arith;
-      }
-
-  step-asks : isBound s c ≡ false → isYes (askStep s c) ≡ true → MayStep c s
-  unfolding askStep isBound
-  step-asks u e = by (stepping s c) (or-none (stepping s c) _ u .0) e
-    where
-      Rest : Asked
-      Rest =
-          ask (isFree s c) (No 2) (ask (isStepper s c) (No 3) (ask (spanGood s c) (No 5) (ask (groupReady s c) (No 6) (ask (patternGood s c) (No 7)
-          (ask (rampGood (cntl0 s c) (cntl1 s c) (top s c)) (No 8) (ask (targetGood s c (target s c)) (No 9) (Yes (requested s c 3))))))))
-
-      rest : isYes Rest ≡ true → MayStep c s
-      rest e2 =
-          let e3 = ask-rest (isFree s c) 2 _ e2 in
-          let e5 = ask-rest (isStepper s c) 3 _ e3 in
-          let e6 = ask-rest (spanGood s c) 5 _ e5 in
-          let e7 = ask-rest (groupReady s c) 6 _ e6 in
-          let e8 = ask-rest (patternGood s c) 7 _ e7 in
-          let e9 = ask-rest (rampGood (cntl0 s c) (cntl1 s c) (top s c)) 8 _ e8 in
-          step-may (ask-first (spanGood s c) 5 _ e5) (ask-first (groupReady s c) 6 _ e6) (ask-first (patternGood s c) 7 _ e7) (ask-first (rampGood (cntl0 s c) (cntl1 s c) (top s c)) 8 _ e8) (ask-first (targetGood s c (target s c)) 9 _ e9)
-
-      by : (b : Bool) → b ≡ false → isYes (pick (b && eqb (request s c) 0) (ask (isStepper s c) (No 3) (Yes (requested s c 3))) Rest) ≡ true → MayStep c s
-      by true z e = absurd (not-both refl z)
-      by false z e = rest e
-
-  module _ (x : MayStep c s) where
-    is-span : spanGood s c ≡ true
-    unfolding spanGood top last
-    is-span = and-both (and-both (is-zero (word s c 5) (x .zero5)) (and-both (le-leb 1 _ (x .least)) (le-leb _ 14 (x .most)))) (and-both (lt-ltb c _ (x .above)) (le-leb _ (c + 7) (x .near)))
-
-    is-group : groupReady s c ≡ true
-    unfolding groupReady size last
-    is-group = all-all (isReady s) (suc (field 4 (word s c 5) 0) - c) c (λ j a b. is-ready _ j (x .group j a (omega (arith, x .above))))
-
-    is-pattern : patternGood s c ≡ true
-    unfolding patternGood nextRate modCount size last
-    is-pattern =
-        and-both (and-both (is-zero (word s c 4) (x .zero4)) (eq-eqb _ 1 (x .slow)))
-        (all-all (showsPattern s (field 4 (word s c 4) 8)) (suc (field 4 (word s c 5) 0) - c) c (λ j a b. is-shown (field 4 (word s c 4) 8) j (field-lt 4 (word s c 4) 8) (x .group j a (omega (arith, x .above)))))
-
-    is-ramp : rampGood (cntl0 s c) (cntl1 s c) (top s c) ≡ true
-    unfolding rampGood period cntl0 cntl1 top
-    is-ramp =
-        and-both (le-leb 1 (word s (suc c) 3 - word s (suc c) 2 * (1 + field 4 (word s c 5) 8)) (omega (arith, x .fastest)))
-        (le-leb (word s (suc c) 3 - word s (suc c) 2 * (1 + 1)) 0x7fff (omega (arith, x .slowest)))
-
-    is-target : targetGood s c (target s c) ≡ true
-    unfolding targetGood target top
-    is-target = le-leb (word s c 3) (0xffff - field 4 (word s c 5) 8) (omega (arith, x .target))
-
-    own-member : Member (field 4 (word s c 4) 8) c s
-    own-member = x .group c (omega arith) (omega (arith, x .above))
-
-    is-still : stepping s c ≡ false
-    unfolding isBound
-    is-still = or-none (stepping s c) _ (own-member .free .unbound) .0
-
-    is-step : isYes (askStep s c) ≡ true
-    unfolding askStep ask isYes
-    is-step = rw (is-still, is-free c s (own-member .free), is-stepper c s (own-member .stepper), is-span, is-group, is-pattern, is-ramp, is-target) refl
+    refused-within : (n : ℕ) → n ≤ 8 → c < m → m ≤ field 4 (word s c 5) 0 → m < 8 * (8 - i) + n → 2 ≤ field 2 v (2 * (m % 8)) → askChannels n (8 * (8 - i)) v s ≡ No 2
+    unfolding askChannels andThen
+    refused-within zero l k h w g = absurd (omega arith)
+    refused-within (suc n) l k h w g =
+        let next : Asked → Asked = λ o. andThen o (askChannel (field 2 v (2 * ((8 * (8 - i) + n) % 8))) (8 * (8 - i) + n)) in
+        let d : m ≤ 8 * (8 - i) + n = omega arith in
+        ⊎-elim (λ p. ap next (asked-together n (omega arith) (omega arith)) ∙ asked-within n (omega arith) (omega arith) (omega arith) (subst (λ j. 2 ≤ field 2 v (2 * (j % 8))) p g))
+        (λ p. ap next (refused-within n (omega arith) k h p g)) (eq-or-lt-of-le d)
 
 -- ---- the other writes
 
@@ -398,6 +246,39 @@ writes-outside : (s : State) (a v : ℕ) → (Listed a → ⊥) → (writeOf s a
 unfolding askPlace answeredBy
 writes-outside s a v n = rw (write-at s a v Nowhere (outside-place a n)) refl
 
+-- a register of which only question 1 is asked
+plain-taken : (s : State) (i v : ℕ) → i < 12 → (leb 1 i && leb i 4) ≡ false → (leb 7 i && leb i 8) ≡ false → isTaken ((writeOf s (registerAddress i) v) .answer) ≡ true
+unfolding askPlace askRegister answeredBy isTaken
+plain-taken s i v h a b =
+    rw (write-at s (registerAddress i) v (AtRegister i) (register-place i h), a, b) (by (eqb i cisr))
+  where
+    by : (t : Bool) → isTaken ((answeredBy (pick t (Does (Keep v)) (Does (Register i v))) s) .answer) ≡ true
+    by true = refl
+    by false = refl
+
+others-taken : (s : State) (i v : ℕ) → ((i ≡ 0) ⊎ ((5 ≤ i) × (i ≤ 6))) ⊎ ((9 ≤ i) × (i ≤ 11)) → isTaken ((writeOf s (registerAddress i) v) .answer) ≡ true
+others-taken s i v =
+    ⊎-elim (⊎-elim (λ e. taken (omega arith) (λ a b. omega arith) (λ a b. omega arith)) (λ e. taken (omega arith) (λ a b. omega arith) (λ a b. omega arith)))
+    (λ e. taken (omega arith) (λ a b. omega arith) (λ a b. omega arith))
+  where
+    none : (m n : ℕ) → (m ≤ i → i ≤ n → ⊥) → (leb m i && leb i n) ≡ false
+    none m n f = fails (leb m i && leb i n) (λ t. f (leb-true m i (and-left (leb m i) _ t)) (leb-true i n (and-right (leb m i) _ t)))
+
+    taken : i < 12 → (1 ≤ i → i ≤ 4 → ⊥) → (7 ≤ i → i ≤ 8 → ⊥) → isTaken ((writeOf s (registerAddress i) v) .answer) ≡ true
+    taken h a b = plain-taken s i v h (none 1 4 a) (none 7 8 b)
+
+missing-written : (s : State) (c i v : ℕ) → c < 14 → 6 ≤ i → i < 8 → writeOf s (wordAddress c i) v ≡ record { answer = Taken; state = s }
+unfolding askPlace askWord answeredBy done
+missing-written s c i v h m l = rw (write-at s (wordAddress c i) v (AtWord c i) (word-place c i (omega arith) l), exists-not c i h m) refl
+
+busy-number : (c : ℕ) (s : State) → request s c ≢ 0 → answerOf (askStep s c) ≡ Refused 2
+unfolding askStep isFree ask answerOf
+busy-number c s n = rw (ne-eqb (request s c) 0 n, and-false (stepping s c), and-false (not (isBound s c))) refl
+  where
+    and-false : (b : Bool) → (b && false) ≡ false
+    and-false true = refl
+    and-false false = refl
+
 again-number : (c : ℕ) (s : State) → stepping s c ≡ true → request s c ≡ 0 → (Stepper c s → ⊥) → answerOf (askStep s c) ≡ Refused 3
 unfolding askStep ask answerOf
 again-number c s g e n = rw (g, eq-eqb (request s c) 0 e, fails (isStepper s c) (λ t. n (stepper-is c s t))) refl
@@ -426,18 +307,20 @@ advance-number s n lent o = rw (fails (advanceGood n lent) (λ e. let k : (n ≤
 -- ---- the calls
 
 pub takes : Takes
-unfolding askChannel request hsrrOf
+unfolding askChannel request hsrrOf isYes isTaken answerOf
 takes =
     record {
       advance = λ s n lent t. advance-asks n lent (sym (advance-taken s n lent) ∙ t);
       advances = λ s n lent a b. advance-taken s n lent ∙ advance-good n lent a b;
       initialise = λ s c v x t. initialise-asks c s (sym (request-taken 2 c v x s) ∙ t);
-      initialises = λ s c v x m. request-taken 2 c v x s ∙ is-initialise c s m;
+      initialises = λ s c v x m. request-taken 2 c v x s ∙ ap isYes (is-initialise c s m);
       step = λ s c v x w u t. step-asks c s w u (sym (request-taken 3 c v x s) ∙ t);
-      steps = λ s c v x w m. request-taken 3 c v x s ∙ is-step c s w m;
+      steps = λ s c v x w m. request-taken 3 c v x s ∙ ap isYes (is-step c s w m);
       again = λ s c v x g e t. stepper-is c s (sym (again-asks c s g e) ∙ sym (request-taken 3 c v x s) ∙ t);
       agains = λ s c v x g e q. request-taken 3 c v x s ∙ again-asks c s g e ∙ is-stepper c s q;
-      requests = λ s c v w h t. pends s c v record { words = w .words; regs = w .regs; channels = w .channels } h t;
+      requests = λ s c v w h t. pends s c v (sized s w) h t;
+      together = λ s i v w d a b x. ap isTaken (requests-answer s i v a b ∙ ap answerOf (asked-together i v 16 s (sized s w) d a b x 8 (omega arith) (omega arith)));
+      within = λ s i v c j w d a b x q e y p g k h. requests-answer s i v a b ∙ ap answerOf (refused-within i v j s (sized s w) d a b x c q e y 8 (omega arith) k h (omega arith) g);
       target = λ s c v h g t. target-asks s c v (sym (by-taken _ 9 _ (target-answer s c v h g)) ∙ t) (field-lt 4 (word s c 5) 8);
       targets = λ s c v h g l. by-taken _ 9 _ (target-answer s c v h g) ∙ target-good s c v l;
       word = λ s c i v h l e n t. free-is c s (sym (by-taken _ 2 _ (word-answer s c i v h l e n)) ∙ t);
@@ -448,6 +331,9 @@ takes =
       word-number = λ s c i v h l e n f. by-refused _ 2 _ (word-answer s c i v h l e n) (λ t. f (free-is c s t));
       target-number = λ s c v h g l. by-refused _ 9 _ (target-answer s c v h g) (λ t. let k = target-asks s c v t (field-lt 4 (word s c 5) 8) in omega arith);
       functions-number = λ s i v j a b q n f. by-refused _ 2 _ (functions-answer s i v a b) (λ t. f (functions-ask s i v a b t j q n));
+      others = others-taken;
+      missing = missing-written;
+      busy = λ s c v x n. request-answer 3 c v x s ∙ busy-number c s n;
       again-number = λ s c v x g e n. request-answer 3 c v x s ∙ again-number c s g e n;
       step-numbers = λ s c v x g. subst (StepNumbers c s) (sym (request-answer 3 c v x s)) (step-numbers c s g);
       initialise-numbers = λ s c v x. subst (InitialiseNumbers c s) (sym (request-answer 2 c v x s)) (initialise-numbers c s);

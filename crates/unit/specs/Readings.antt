@@ -45,7 +45,8 @@ pub record Readings : Type 0 where
       → isTaken ((writeOf s (registerAddress i) v) .answer) ≡ true → readOf ((writeOf s (registerAddress i) v) .state) (registerAddress i) ≡ Word v
   -- a write to CISR is taken: a written 0 clears the bit, a 1 keeps it
   pub cleared : (s : State) (v k : ℕ) → Whole s → field 1 v k ≡ 0 → field 1 (getD (((writeOf s (registerAddress 11) v) .state) .regs) 11 0) k ≡ 0
-  pub kept : (s : State) (v k : ℕ) → Whole s → field 1 v k ≡ 1 → field 1 (getD (((writeOf s (registerAddress 11) v) .state) .regs) 11 0) k ≡ field 1 (getD (s .regs) 11 0) k
+  pub kept : (s : State) (v k : ℕ) → Whole s → field 1 v k ≡ 1
+      → field 1 (getD (((writeOf s (registerAddress 11) v) .state) .regs) 11 0) k ≡ field 1 (getD (s .regs) 11 0) k
   -- the interrupt line is up just where a channel has both its bits
   pub line-up : (s : State) → BothBits s → interruptLine s ≡ true
   pub line-why : (s : State) → getD (s .regs) 0 0 ≤ 0xffff → interruptLine s ≡ true → BothBits s

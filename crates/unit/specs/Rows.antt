@@ -56,27 +56,35 @@ pub record Rows : Type 0 where
   -- a step request that no write has stored, of a group at rest: the test follows (N14)
   pub row-stored : shows (tick (withRequest (run resetState (ready 0 4)) 4 3)) ≡ 0x10 ∷ 1 ∷ 258 ∷ 0xc210 ∷ 0x91a ∷ 0x0 ∷ []
   -- a match beyond the wrap of TCR1 is not due before it
-  pub row-wrap : ((channel (matched 4 (withTime (withPhase resetState 4 Right (Armed 3)) 0xfffe)) 4) .phase ≡ Armed 3) × ((channel (matched 4 (withTime (withPhase resetState 4 Right (Armed 3)) 3)) 4) .phase ≡ Matched 3)
+  pub row-wrap : ((channel (matched 4 (withTime (withPhase resetState 4 Right (Armed 3)) 0xfffe)) 4) .phase ≡ Armed 3)
+      × ((channel (matched 4 (withTime (withPhase resetState 4 Right (Armed 3)) 3)) 4) .phase ≡ Matched 3)
   -- a target put behind a fast motor: it slows down first
   pub row-behind : position (afterTicks 4 ((writeOf (afterTicks 12 (goes 0 9)) 0xf46 1) .state)) 4 ≡ 4
   -- question 1: an odd address, and one that is not in the list
   pub row-question-1 : (refuses [] 0xe0b 0 ≡ 1) × (refuses [] 0xe08 0 ≡ 1) × (refuses [] 0xe22 0 ≡ 1) × (refuses [] 0xffe 0 ≡ 0)
   -- question 2: a word of a group under way, but its target, and a channel with a pending request
-  pub row-question-2 : (refuses (Write 0xe1a 0x0300 ∷ []) 0xf4a 0 ≡ 2) × (refuses (Write 0xe1a 0x0300 ∷ []) 0xf50 0 ≡ 2) × (refuses (Write 0xe1a 0x0300 ∷ []) 0xf46 1 ≡ 0) × (refuses (Write 0xf40 0x0081 ∷ Write 0xe1a 0x0200 ∷ []) 0xf46 1 ≡ 2)
+  pub row-question-2 : (refuses (Write 0xe1a 0x0300 ∷ []) 0xf4a 0 ≡ 2) × (refuses (Write 0xe1a 0x0300 ∷ []) 0xf50 0 ≡ 2)
+      × (refuses (Write 0xe1a 0x0300 ∷ []) 0xf46 1 ≡ 0) × (refuses (Write 0xf40 0x0081 ∷ Write 0xe1a 0x0200 ∷ []) 0xf46 1 ≡ 2)
   -- question 3: another function
   pub row-question-3 : refuses (Write 0xe10 0x00dc ∷ []) 0xe1a 0x0300 ≡ 3
   -- question 4: CHANNEL_CONTROL for an initialise
-  pub row-question-4 : (refuses (Write 0xf40 0x0082 ∷ []) 0xe1a 0x0200 ≡ 4) × (refuses (Write 0xf40 0x00a1 ∷ []) 0xe1a 0x0200 ≡ 4) × (refuses (Write 0xf40 0xfe9d ∷ []) 0xe1a 0x0200 ≡ 0)
+  pub row-question-4 : (refuses (Write 0xf40 0x0082 ∷ []) 0xe1a 0x0200 ≡ 4) × (refuses (Write 0xf40 0x00a1 ∷ []) 0xe1a 0x0200 ≡ 4)
+      × (refuses (Write 0xf40 0xfe9d ∷ []) 0xe1a 0x0200 ≡ 0)
   -- question 5: the span, and N from 1 to 14
-  pub row-question-5 : (refuses (Write 0xf4a 0x0304 ∷ []) 0xe1a 0x0300 ≡ 5) × (refuses (Write 0xf4a 0x030c ∷ []) 0xe1a 0x0300 ≡ 5) × (refuses (Write 0xf4a 0x0005 ∷ []) 0xe1a 0x0300 ≡ 5) × (refuses (Write 0xf4a 0x0f05 ∷ []) 0xe1a 0x0300 ≡ 5) × (refuses (Write 0xf4a 0x1305 ∷ []) 0xe1a 0x0300 ≡ 5)
+  pub row-question-5 : (refuses (Write 0xf4a 0x0304 ∷ []) 0xe1a 0x0300 ≡ 5) × (refuses (Write 0xf4a 0x030c ∷ []) 0xe1a 0x0300 ≡ 5)
+      × (refuses (Write 0xf4a 0x0005 ∷ []) 0xe1a 0x0300 ≡ 5) × (refuses (Write 0xf4a 0x0f05 ∷ []) 0xe1a 0x0300 ≡ 5)
+      × (refuses (Write 0xf4a 0x1305 ∷ []) 0xe1a 0x0300 ≡ 5)
   -- question 6: a channel of the group that is not of function 13, or not initialised
   pub row-question-6 : (refuses (Write 0xf4a 0x030b ∷ []) 0xe1a 0x0300 ≡ 6) × (refuses (Write 0xf50 0x1234 ∷ []) 0xe1a 0x0300 ≡ 6)
   -- question 7: the next rate, word 4 otherwise, MOD_CNT and the pattern
-  pub row-question-7 : (refuses (Write 0xf48 0x0002 ∷ []) 0xe1a 0x0300 ≡ 7) × (refuses (Write 0xf48 0x0011 ∷ []) 0xe1a 0x0300 ≡ 7) × (refuses (Write 0xf48 0x0101 ∷ []) 0xe1a 0x0300 ≡ 7) × (refuses (Write 0xf52 0x2234 ∷ []) 0xe1a 0x0300 ≡ 7)
+  pub row-question-7 : (refuses (Write 0xf48 0x0002 ∷ []) 0xe1a 0x0300 ≡ 7) × (refuses (Write 0xf48 0x0011 ∷ []) 0xe1a 0x0300 ≡ 7)
+      × (refuses (Write 0xf48 0x0101 ∷ []) 0xe1a 0x0300 ≡ 7) × (refuses (Write 0xf52 0x2234 ∷ []) 0xe1a 0x0300 ≡ 7)
   -- question 8: the shortest and the longest period
-  pub row-question-8 : (refuses (Write 0xf56 5 ∷ []) 0xe1a 0x0300 ≡ 0) × (refuses (Write 0xf56 4 ∷ []) 0xe1a 0x0300 ≡ 8) × (refuses (Write 0xf54 0 ∷ Write 0xf56 0x7fff ∷ []) 0xe1a 0x0300 ≡ 0) × (refuses (Write 0xf54 0 ∷ Write 0xf56 0x8000 ∷ []) 0xe1a 0x0300 ≡ 8)
+  pub row-question-8 : (refuses (Write 0xf56 5 ∷ []) 0xe1a 0x0300 ≡ 0) × (refuses (Write 0xf56 4 ∷ []) 0xe1a 0x0300 ≡ 8)
+      × (refuses (Write 0xf54 0 ∷ Write 0xf56 0x7fff ∷ []) 0xe1a 0x0300 ≡ 0) × (refuses (Write 0xf54 0 ∷ Write 0xf56 0x8000 ∷ []) 0xe1a 0x0300 ≡ 8)
   -- question 9: the target at most $FFFF - N, at the request and while bound
-  pub row-question-9 : (refuses (Write 0xf46 0xfffc ∷ []) 0xe1a 0x0300 ≡ 0) × (refuses (Write 0xf46 0xfffd ∷ []) 0xe1a 0x0300 ≡ 9) × (refuses (Write 0xe1a 0x0300 ∷ []) 0xf46 0xfffd ≡ 9) × (refuses [] 0xf46 0xfffd ≡ 0)
+  pub row-question-9 : (refuses (Write 0xf46 0xfffc ∷ []) 0xe1a 0x0300 ≡ 0) × (refuses (Write 0xf46 0xfffd ∷ []) 0xe1a 0x0300 ≡ 9)
+      × (refuses (Write 0xe1a 0x0300 ∷ []) 0xf46 0xfffd ≡ 9) × (refuses [] 0xf46 0xfffd ≡ 0)
   -- question 10: so many ticks, and room for them
   pub row-question-10 : (advanceGood 4097 (replicate 4097 0) ≡ false) × (advanceGood 2 (0 ∷ []) ≡ false) × (advanceGood 2 (0 ∷ 0 ∷ []) ≡ true) × (advanceGood 0 [] ≡ true)
   -- a CFSR word concerns the channels whose field differs: beside a group under way, and in it
@@ -86,4 +94,5 @@ pub record Rows : Type 0 where
   -- in an HSRR word the lowest refused channel gives the number, and the lower ones count as taken: from the top the first would be 4
   pub row-word : (refuses [] 0xe1a 0x0b00 ≡ 2) × (refuses (Write 0xf50 0x0082 ∷ Write 0xe1a 0x0800 ∷ []) 0xe1a 0x0300 ≡ 6) × (refuses [] 0xe1a 0x0000 ≡ 0)
   -- a target taken under way is the one in memory, and a refused write changes nothing
-  pub row-writes : (target ((writeOf (goes 0 3) 0xf46 1) .state) 4 ≡ 1) × (word ((writeOf (goes 0 3) 0xf4a 0) .state) 4 5 ≡ 0x0305) × (((writeOf (goes 0 3) 0xf4a 0) .state) .tcr1 ≡ 1)
+  pub row-writes : (target ((writeOf (goes 0 3) 0xf46 1) .state) 4 ≡ 1) × (word ((writeOf (goes 0 3) 0xf4a 0) .state) 4 5 ≡ 0x0305)
+      × (((writeOf (goes 0 3) 0xf4a 0) .state) .tcr1 ≡ 1)

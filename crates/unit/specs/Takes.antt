@@ -9,7 +9,7 @@ use Rattle.words.specs.Field.{field}
 use Rattle.unit.specs.declared.State.{State}
 use Rattle.unit.specs.TheUnit.{Whole, reg, channel, word, target, top, cntl0, cntl1, stepping, isBound}
 use Rattle.unit.specs.declared.Answer.{Answer}
-use Rattle.unit.specs.declared.Answer.the-variants.{Refused}
+use Rattle.unit.specs.declared.Answer.the-variants.{Taken, Refused}
 use Rattle.unit.specs.Gate.{isFree, isStepper, mayInitialise, spanGood, groupReady, patternGood, rampGood, targetGood}
 use Rattle.unit.specs.Calls.{advanceOf, writeOf, isTaken}
 use Rattle.unit.specs.Readings.{registerAddress, wordAddress, Listed, Exists}
@@ -57,11 +57,25 @@ pub record MayStep (c : ℕ) (s : State) : Type 0 where
   pub slowest : word s (suc c) 3 ≤ 0x7fff + word s (suc c) 2 * 2
   pub target : word s c 3 + field 4 (word s c 5) 8 ≤ 0xffff
 
+-- a step request of a motor that is under way, without a pending one. Document 01, "Questions at the gate": only question 3 follows
+pub record MayRepeat (c : ℕ) (s : State) : Type 0 where
+  pub bound : stepping s c ≡ true
+  pub none : pending c s ≡ 0
+  pub stepper : Stepper c s
+
 -- the word v of an HSRR register asks for r of channel c, and nothing of the seven others
 pub record AsksOne (r c v : ℕ) : Type 0 where
   pub small : c < 16
   pub own : field 2 v (2 * (c % 8)) ≡ r
   pub others : (k : ℕ) → k < 8 → k ≢ c % 8 → field 2 v (2 * k) < 2
+
+-- what the word v of register i asks of channels below m may be asked of each of them alone, and none that it asks lies in the group of a
+-- lower one that it sets going. Document 01, "Questions at the gate": the lowest first, as if the lower ones were already taken
+pub record Together (i v m : ℕ) (s : State) : Type 0 where
+  pub initialise : (c : ℕ) → c / 8 ≡ 8 - i → c < m → field 2 v (2 * (c % 8)) ≡ 2 → MayInitialise c s
+  pub step : (c : ℕ) → c / 8 ≡ 8 - i → c < m → field 2 v (2 * (c % 8)) ≡ 3 → MayStep c s ⊎ MayRepeat c s
+  pub apart : (c j : ℕ) → c / 8 ≡ 8 - i → j / 8 ≡ 8 - i → c < j → j < m
+      → field 2 v (2 * (c % 8)) ≡ 3 → stepping s c ≡ false → 2 ≤ field 2 v (2 * (j % 8)) → field 4 (word s c 5) 0 < j
 
 -- $E18 for channels 15 to 8, else $E1A
 abbrev pub requestAddress : ℕ → ℕ
@@ -109,7 +123,15 @@ pub record Takes : Type 0 where
   pub agains : (s : State) (c v : ℕ) → AsksOne 3 c v → stepping s c ≡ true → pending c s ≡ 0
       → Stepper c s → isTaken ((writeOf s (requestAddress c) v) .answer) ≡ true
   -- what a taken word of requests does, whatever it asks of other channels
-  pub requests : (s : State) (c v : ℕ) → Whole s → c < 16 → isTaken ((writeOf s (requestAddress c) v) .answer) ≡ true → Pends c v s ((writeOf s (requestAddress c) v) .state)
+  pub requests : (s : State) (c v : ℕ) → Whole s → c < 16 → isTaken ((writeOf s (requestAddress c) v) .answer) ≡ true
+      → Pends c v s ((writeOf s (requestAddress c) v) .state)
+  -- a word of register i, HSRR0 or HSRR1, that asks channels which may be asked together is taken
+  pub together : (s : State) (i v : ℕ) → Whole s → ((k : ℕ) → getD (s .words) k 0 ≤ 0xffff) → 7 ≤ i → i ≤ 8 → Together i v 16 s
+      → isTaken ((writeOf s (registerAddress i) v) .answer) ≡ true
+  -- the lowest first: the next one asked, j, lies in the group of a lower one that is set going, and gets 2
+  pub within : (s : State) (i v c j : ℕ) → Whole s → ((k : ℕ) → getD (s .words) k 0 ≤ 0xffff) → 7 ≤ i → i ≤ 8 → Together i v j s
+      → c / 8 ≡ 8 - i → field 2 v (2 * (c % 8)) ≡ 3 → MayStep c s
+      → j / 8 ≡ 8 - i → 2 ≤ field 2 v (2 * (j % 8)) → c < j → j ≤ field 4 (word s c 5) 0 → (writeOf s (registerAddress i) v) .answer ≡ Refused 2
   -- a target of a primary that is under way is taken just where it is at most $FFFF - N, whatever is pending
   pub target : (s : State) (c v : ℕ) → c < 16 → stepping s c ≡ true → isTaken ((writeOf s (wordAddress c 3) v) .answer) ≡ true → v + field 4 (word s c 5) 8 ≤ 0xffff
   pub targets : (s : State) (c v : ℕ) → c < 16 → stepping s c ≡ true → v + field 4 (word s c 5) 8 ≤ 0xffff → isTaken ((writeOf s (wordAddress c 3) v) .answer) ≡ true
@@ -123,14 +145,20 @@ pub record Takes : Type 0 where
       → (j : ℕ) → j / 4 ≡ 4 - i → field 4 v (4 * (j % 4)) ≢ field 4 (reg s i) (4 * (j % 4)) → Free j s
   pub functions-all : (s : State) (i v : ℕ) → 1 ≤ i → i ≤ 4 → ((j : ℕ) → j / 4 ≡ 4 - i → field 4 v (4 * (j % 4)) ≢ field 4 (reg s i) (4 * (j % 4)) → Free j s)
       → isTaken ((writeOf s (registerAddress i) v) .answer) ≡ true
+  -- CIER, HSQR, CPR and CISR are always taken; so is a missing word, and nothing changes
+  pub others : (s : State) (i v : ℕ) → ((i ≡ 0) ⊎ ((5 ≤ i) × (i ≤ 6))) ⊎ ((9 ≤ i) × (i ≤ 11)) → isTaken ((writeOf s (registerAddress i) v) .answer) ≡ true
+  pub missing : (s : State) (c i v : ℕ) → c < 14 → 6 ≤ i → i < 8 → writeOf s (wordAddress c i) v ≡ record { answer = Taken; state = s }
   -- the first no gives its number: 1 for an address that is not in the list, 2 for a word or a CFSR field of a channel that is not free, 3 for
   -- a further request of another function
   pub outside : (s : State) (a v : ℕ) → (Listed a → ⊥) → (writeOf s a v) .answer ≡ Refused 1
-  pub word-number : (s : State) (c i v : ℕ) → c < 16 → i < 8 → Exists c i → (i ≡ 3 → stepping s c ≡ false) → (Free c s → ⊥) → (writeOf s (wordAddress c i) v) .answer ≡ Refused 2
+  pub word-number : (s : State) (c i v : ℕ) → c < 16 → i < 8 → Exists c i → (i ≡ 3 → stepping s c ≡ false) → (Free c s → ⊥)
+      → (writeOf s (wordAddress c i) v) .answer ≡ Refused 2
   pub functions-number : (s : State) (i v j : ℕ) → 1 ≤ i → i ≤ 4 → j / 4 ≡ 4 - i → field 4 v (4 * (j % 4)) ≢ field 4 (reg s i) (4 * (j % 4)) → (Free j s → ⊥)
       → (writeOf s (registerAddress i) v) .answer ≡ Refused 2
   pub again-number : (s : State) (c v : ℕ) → AsksOne 3 c v → stepping s c ≡ true → pending c s ≡ 0 → (Stepper c s → ⊥)
       → (writeOf s (requestAddress c) v) .answer ≡ Refused 3
+  -- whatever its group does, a channel with a pending request gets 2
+  pub busy : (s : State) (c v : ℕ) → AsksOne 3 c v → pending c s ≢ 0 → (writeOf s (requestAddress c) v) .answer ≡ Refused 2
   pub step-numbers : (s : State) (c v : ℕ) → AsksOne 3 c v → stepping s c ≡ false → StepNumbers c s ((writeOf s (requestAddress c) v) .answer)
   pub initialise-numbers : (s : State) (c v : ℕ) → AsksOne 2 c v → InitialiseNumbers c s ((writeOf s (requestAddress c) v) .answer)
   pub advance-number : (s : State) (n : ℕ) (lent : List ℕ) → (4096 < n) ⊎ (length lent < n) → (advanceOf s n lent) .answer ≡ Refused 10
