@@ -41,10 +41,6 @@ use Rattle.board.proofs.WriteLaws.{Still, free-still, put, write-taken}
 use Rattle.board.proofs.ToLoadLaws.{to-load-found, none-in-other, none-sought}
 use Rattle.board.proofs.PutLaws.{Keeps, keeps-refl, keeps-trans, keeps-still, put-keeps, put-sized, put-same, put-other, put-clears, put-stays-cleared}
 
--- the same three lengths, by the name that the unit's laws have for them
-pub sized : (s : State) → Whole s → Sized s
-sized s w = record { words = w .words; regs = w .regs; channels = w .channels }
-
 -- two settings have different places
 apart : (m n : ℕ) → m < n → n < settings → place (settingAddress n) ≢ place (settingAddress m)
 apart m n h l e =
@@ -138,12 +134,12 @@ module _ (b : List ℕ) (k : ℕ) where
 
   brought : (s : State) (n : ℕ) → Whole s → AllFree s → n < settings → setting (run s (loadCalls b k)) n ≡ wordIn b k (3 + n)
   unfolding setting
-  brought s n w f h = rw (load-puts s f) (puts-bring settings n s h (omega arith) (sized s w))
+  brought s n w f h = rw (load-puts s f) (puts-bring settings n s h (omega arith) w)
 
   uninitialised : (s : State) (c : ℕ) → Whole s → c < 16 → (channel (puts settings s) c) .initialised ≡ false
   uninitialised s c w h =
       let x : SettingAt (AtWord c 0) = addresses .words c 0 h (omega arith) (low-exists c 0 (omega arith)) in
-      puts-clear settings (x .number) c s (x .within) (omega arith) h (x .stands) (sized s w)
+      puts-clear settings (x .number) c s (x .within) (omega arith) h (x .stands) w
 
   left : (s : State) → Whole s → AllFree s → Leaves s (run s (loadCalls b k))
   left s w f =

@@ -15,17 +15,12 @@ use Rattle.words.proofs.FieldLaws.{field-lt, words-equal}
 use Rattle.words.proofs.RotationLaws.{right-bit, right-fits}
 use Rattle.motor.specs.Stepping.{period}
 use Rattle.unit.specs.declared.State.{State}
-use Rattle.unit.specs.declared.Verdict.the-variants.{Taken as Does, Refused as Stops}
 use Rattle.unit.specs.declared.Answer.the-variants.{Taken, Refused}
 use Rattle.unit.specs.declared.Answer.{Answer}
-use Rattle.unit.specs.TheUnit.{Whole, all, cfsrOf, hsrrOf, function, request, channel, word, channelControl, pinControl, target, modCount, nextRate, top, last, cntl0, cntl1, size, stepping, isBound}
+use Rattle.unit.specs.TheUnit.{all, cfsrOf, hsrrOf, function, request, channel, word, channelControl, pinControl, target, modCount, nextRate, top, last, cntl0, cntl1, size, stepping, isBound}
 use Rattle.unit.specs.Gate.{isFree, isStepper, mayInitialise, otherwiseZero, spanGood, isReady, groupReady, showsPattern, patternGood, rampGood, targetGood, requested, Asked, Yes, No, askInitialise, askStep}
 use Rattle.unit.specs.Takes.{Free, Stepper, MayInitialise, Member, MayStep, MayRepeat}
 use Rattle.unit.proofs.Tests.{and-both, not-yes, all-yes, or-none}
-use Rattle.unit.proofs.Reset.{Sized}
-
-pub sized : (s : State) → Whole s → Sized s
-sized s w = record { words = w .words; regs = w .regs; channels = w .channels }
 
 not-no : {b : Bool} → b ≡ false → not b ≡ true
 not-no e = rw e refl

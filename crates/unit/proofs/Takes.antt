@@ -32,7 +32,7 @@ use Rattle.unit.proofs.Reset.{Sized}
 use Rattle.unit.proofs.Requests.{request-write, pends}
 use Rattle.unit.proofs.Together.{above-same, initialise-after, step-after, group-bound}
 use Rattle.unit.proofs.Readings.{register-place, word-place, outside-place, exists-yes, exists-not, write-at}
-use Rattle.unit.proofs.Questions.{sized, all-all, isYes, answerOf, yes-asks, or-second, free-is, is-free, stepper-is, is-stepper, is-still, initialise-asks, is-initialise, step-asks, is-repeat, is-step}
+use Rattle.unit.proofs.Questions.{all-all, isYes, answerOf, yes-asks, or-second, free-is, is-free, stepper-is, is-stepper, is-still, initialise-asks, is-initialise, step-asks, is-repeat, is-step}
 
 -- ---- question 10
 
@@ -318,9 +318,9 @@ takes =
       steps = λ s c v x w m. request-taken 3 c v x s ∙ ap isYes (is-step c s w m);
       again = λ s c v x g e t. stepper-is c s (sym (again-asks c s g e) ∙ sym (request-taken 3 c v x s) ∙ t);
       agains = λ s c v x g e q. request-taken 3 c v x s ∙ again-asks c s g e ∙ is-stepper c s q;
-      requests = λ s c v w h t. pends s c v (sized s w) h t;
-      together = λ s i v w d a b x. ap isTaken (requests-answer s i v a b ∙ ap answerOf (asked-together i v 16 s (sized s w) d a b x 8 (omega arith) (omega arith)));
-      within = λ s i v c j w d a b x q e y p g k h. requests-answer s i v a b ∙ ap answerOf (refused-within i v j s (sized s w) d a b x c q e y 8 (omega arith) k h (omega arith) g);
+      requests = pends;
+      together = λ s i v w d a b x. ap isTaken (requests-answer s i v a b ∙ ap answerOf (asked-together i v 16 s w d a b x 8 (omega arith) (omega arith)));
+      within = λ s i v c j w d a b x q e y p g k h. requests-answer s i v a b ∙ ap answerOf (refused-within i v j s w d a b x c q e y 8 (omega arith) k h (omega arith) g);
       target = λ s c v h g t. target-asks s c v (sym (by-taken _ 9 _ (target-answer s c v h g)) ∙ t) (field-lt 4 (word s c 5) 8);
       targets = λ s c v h g l. by-taken _ 9 _ (target-answer s c v h g) ∙ target-good s c v l;
       word = λ s c i v h l e n t. free-is c s (sym (by-taken _ 2 _ (word-answer s c i v h l e n)) ∙ t);
