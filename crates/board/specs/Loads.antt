@@ -71,7 +71,7 @@ pub record Leaves (s t : State) : Type 0 where
   pub ways : (c : ℕ) → (channel t c) .way ≡ (channel s c) .way
   pub phases : (c : ℕ) → (channel t c) .phase ≡ (channel s c) .phase
 
--- no channel is bound or has a pending request
+-- all sixteen channels are free
 unfoldable pub AllFree : State → Type 0
 AllFree s = (c : ℕ) → c < 16 → Free c s
 

@@ -9,7 +9,7 @@ use lib.Dec.{eqb}
 use borrow.Author.Tests.{le-leb, eq-eqb, ne-eqb, eqb-true, eqb-false}
 use Rattle.words.specs.Choice.{pick}
 use Rattle.words.specs.Field.{field, bitOf}
-use Rattle.words.proofs.ChoiceLaws.{pick-cases, not-both, and-right}
+use Rattle.words.proofs.ChoiceLaws.{pick-cases, not-both, fails, and-right}
 use Rattle.motor.specs.Group.{bound}
 use Rattle.unit.specs.declared.State.{State}
 use Rattle.unit.specs.declared.Channel.{Channel}
@@ -19,8 +19,8 @@ use Rattle.unit.specs.OneTick.{tick}
 use Rattle.unit.specs.Gate.{mayInitialise}
 use Rattle.unit.specs.Calls.{Call}
 use Rattle.history.specs.Moments.{Act, Ticks as ticks, Writes as writes, Nothing as nothing, does, through, priorityOf}
-use Rattle.history.specs.Always.{GroupShown, StateOf, ByInitialise, ByMatch, Pending, InitialiseIs, Untouched, Always}
-use Rattle.history.proofs.Alone.{fades-tick}
+use Rattle.history.specs.Always.{GroupShown, StateOf, ByInitialise, ByMatch, Pending, LeavesWords, InitialiseIs, Untouched, Always}
+use Rattle.history.proofs.Alone.{Fades, fades-tick}
 use Rattle.history.proofs.Held.{Held}
 use Rattle.history.proofs.Parts.{Part, part}
 use Rattle.history.proofs.WholeSteps.{tick-is}
@@ -75,7 +75,7 @@ state-good calls s x = subst Good (sym (x .reached)) (good-through (x .before) r
 moves-only : (calls : List Call) (s : State) → StateOf calls s → (p : ℕ) → p < 16 → position (tick s) p ≢ position s p → (b : Bool) → stepping s p ≡ b → (stepping s p ≡ true) × GroupShown p s
 unfolding position Every
 moves-only calls s x p l n true t = (t, ((state-good calls s x) .1 p l t) .1)
-moves-only calls s x p l n false t = let f : Fine s = state-good calls s x .0 in absurd (n ((fades-tick s (f .sized) (f .going)) .places p t))
+moves-only calls s x p l n false t = let f : Fine s = state-good calls s x .0 in absurd (n ((fades-tick s (f .sized) (f .going)) .places p 2 (omega arith) (omega arith) t))
 
 -- ---- where a pin changes
 
@@ -131,9 +131,17 @@ disabled-is j s n = by (eqb (field 2 (reg s (9 + (1 - j / 8))) (2 * (j % 8))) 0)
 settles : (calls : List Call) (s : State) → StateOf calls s → (j : ℕ) → j < 16 → isBound s j ≡ false → Settled j s (tick s)
 settles calls s x j l u = let f : Fine s = state-good calls s x .0 in settled j s l (f .sized) (f .going) (unbound-still j s u) (unreached j s (f .sized) u)
 
-initialise-is : (j : ℕ) (s t : State) → Settled j s t → mayInitialise s j ≡ true → request s j ≡ 2 → enabled s j ≡ true → InitialiseIs j s t
+-- of a channel that is not bound a tick leaves every word but CHANNEL_CONTROL, and sets nothing going
+leaves-words : (calls : List Call) (s : State) → StateOf calls s → (j : ℕ) → isBound s j ≡ false → LeavesWords j s (tick s)
+leaves-words calls s x j u =
+    let f : Fine s = state-good calls s x .0 in
+    let d : Fades s (tick s) = fades-tick s (f .sized) (f .going) in
+    let r : stepping s j ≡ false = unbound-still j s u in
+    record { words = λ i a b. d .places j i a b r; rests = fails (stepping (tick s) j) (λ e. not-both (d .still j e) r) }
+
+initialise-is : (j : ℕ) (s t : State) → Settled j s t → LeavesWords j s t → mayInitialise s j ≡ true → request s j ≡ 2 → enabled s j ≡ true → InitialiseIs j s t
 unfolding part initialisedPart channelControl pinControl mayInitialise status request hsrrOf bitOf
-initialise-is j s t x m p e =
+initialise-is j s t x o m p e =
     let q : part j j t ≡ initialisedPart (part j j s) = x .part-both p e in
     let v : field 2 (word s j 0) 0 ≡ pick (eqb (field 1 (word s j 1) 15) 1) 1 2 = eqb-true _ _ (and-right (eqb (field 4 (word s j 0) 5) 4) _ m) in
     record {
@@ -141,17 +149,17 @@ initialise-is j s t x m p e =
       low = λ b. ap (λ (y : Part). y .pin) q ∙ ne-eqb (field 2 (word s j 0) 0) 1 (λ d. omega arith);
       either = pick-cases (λ k. field 2 (word s j 0) 0 ≡ k → (field 2 (word s j 0) 0 ≡ 1) ⊎ (field 2 (word s j 0) 0 ≡ 2)) (eqb (field 1 (word s j 1) 15) 1) (λ a. inl) (λ a. inr) v;
       control = ap (λ (y : Part). y .control) q;
-      source = ap (λ (y : Part). y .source) q;
+      others = o;
       set-up = ap (λ (y : Part). y .initialised) q;
       status = eqb-true (field 1 (reg t 11) j) 1 (x .status-both p e);
       gone = x .request-both p e;
     }
 
-untouched-is : (j : ℕ) (s t : State) → Settled j s t → (request s j ≡ 2 → enabled s j ≡ false) → Untouched j s t
+untouched-is : (j : ℕ) (s t : State) → Settled j s t → LeavesWords j s t → (request s j ≡ 2 → enabled s j ≡ false) → Untouched j s t
 unfolding part channelControl pinControl status
-untouched-is j s t x n =
+untouched-is j s t x o n =
     let q : part j j t ≡ part j j s = x .part-not n in
-    record { pin = ap (λ (y : Part). y .pin) q; control = ap (λ (y : Part). y .control) q; source = ap (λ (y : Part). y .source) q; set-up = ap (λ (y : Part). y .initialised) q; status = x .status-not n }
+    record { pin = ap (λ (y : Part). y .pin) q; control = ap (λ (y : Part). y .control) q; others = o; set-up = ap (λ (y : Part). y .initialised) q; status = x .status-not n }
 
 pub always : Always
 unfolding Every channelControl Pending request hsrrOf
@@ -163,7 +171,7 @@ always =
       moves = λ calls s x p l n. moves-only calls s x p l n (stepping s p) refl;
       under-way = λ calls s x. (state-good calls s x) .0 .going;
       questions = λ calls s x c a v g. asked c a v s (state-good calls s x .0) g;
-      initialises = λ calls s x j l p e. let y : (mayInitialise s j ≡ true) × (isBound s j ≡ false) = (state-good calls s x) .2 .asked j l p in initialise-is j s (tick s) (settles calls s x j l (y .1)) (y .0) p (enabled-is j s e);
-      untouched = λ calls s x j l u n. untouched-is j s (tick s) (settles calls s x j l u) (λ p. disabled-is j s (n p));
+      initialises = λ calls s x j l p e. let y : (mayInitialise s j ≡ true) × (isBound s j ≡ false) = (state-good calls s x) .2 .asked j l p in initialise-is j s (tick s) (settles calls s x j l (y .1)) (leaves-words calls s x j (y .1)) (y .0) p (enabled-is j s e);
+      untouched = λ calls s x j l u n. untouched-is j s (tick s) (settles calls s x j l u) (leaves-words calls s x j u) (λ p. disabled-is j s (n p));
       waits = λ calls s x j l p n. let y : (mayInitialise s j ≡ true) × (isBound s j ≡ false) = (state-good calls s x) .2 .asked j l p in (settles calls s x j l (y .1)) .request-off (disabled-is j s n) ∙ p;
     }

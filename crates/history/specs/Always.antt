@@ -54,14 +54,19 @@ pub record ByMatch (j : ℕ) (s : State) : Type 0 where
   pub level : ((actsAt ((channel s primary) .phase) ((tick s) .tcr1) ≡ true) × (pin (tick s) j ≡ (channel s j) .level))
       ⊎ (((channel (tick s) primary) .phase ≡ Matched ((tick s) .tcr1)) × (pin (tick s) j ≡ (channel (tick s) j) .level))
 
--- Document 01, Initialise, in a tick from s to t: the pin as bits 1 to 0 say, CHANNEL_CONTROL becomes PIN_CONTROL, the channel is
--- initialised, its status bit is set, and nothing is pending any more
+-- a tick from s to t leaves every word of channel j but CHANNEL_CONTROL, and its motor at rest
+pub record LeavesWords (j : ℕ) (s t : State) : Type 0 where
+  pub words : (i : ℕ) → 1 ≤ i → i < 8 → word t j i ≡ word s j i
+  pub rests : stepping t j ≡ false
+
+-- Document 01, Initialise, in a tick from s to t: the pin by the two lowest bits of CHANNEL_CONTROL, which then is the pattern; the flag of
+-- a channel that is set up; its status bit; no request left; and all else of the channel as before
 pub record InitialiseIs (j : ℕ) (s t : State) : Type 0 where
   pub high : field 2 (channelControl s j) 0 ≡ 1 → pin t j ≡ true
   pub low : field 2 (channelControl s j) 0 ≡ 2 → pin t j ≡ false
   pub either : (field 2 (channelControl s j) 0 ≡ 1) ⊎ (field 2 (channelControl s j) 0 ≡ 2)
   pub control : channelControl t j ≡ pinControl s j
-  pub source : pinControl t j ≡ pinControl s j
+  pub others : LeavesWords j s t
   pub set-up : (channel t j) .initialised ≡ true
   pub status : field 1 (reg t 11) j ≡ 1
   pub gone : pending j t ≡ 0
@@ -70,7 +75,7 @@ pub record InitialiseIs (j : ℕ) (s t : State) : Type 0 where
 pub record Untouched (j : ℕ) (s t : State) : Type 0 where
   pub pin : pin t j ≡ pin s j
   pub control : channelControl t j ≡ channelControl s j
-  pub source : pinControl t j ≡ pinControl s j
+  pub others : LeavesWords j s t
   pub set-up : (channel t j) .initialised ≡ (channel s j) .initialised
   pub status : bitOf (reg t 11) j ≡ bitOf (reg s 11) j
 

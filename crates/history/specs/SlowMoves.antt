@@ -1,5 +1,5 @@
--- Paper 02, #103, about every list of calls from reset: a move over up to N places is run at P(1) throughout, a longer one takes up
--- speed while more than N places lie ahead, and every move ends with a P(1) step.
+-- Paper 02, #103, about every list of calls from reset: a move over up to N places never leaves rate 1, a longer one takes up speed while
+-- more than N places lie ahead, and the last step of either is at rate 1.
 use Prim.Native.Nat.{ℕ, _≤_}
 use mathlib.Core.Bool.{false}
 use mathlib.Core.List.{List, _∷_, _++_}

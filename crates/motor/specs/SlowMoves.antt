@@ -1,5 +1,5 @@
--- Paper 02, #103, of whole moves: a distance of up to N is run at P(1) throughout, a longer move takes up speed and ends with a P(1)
--- step. The claim for one group: `SlowMoves`.
+-- Paper 02, #103, of whole moves: up to N places away a motor never leaves rate 1, from further off it takes up speed, and its last step
+-- is at rate 1 again. The claim for one group: `SlowMoves`.
 use Prim.Native.Nat.{ℕ, suc, _-_, _≤_, _<_, max}
 use mathlib.Core.Bool.{false}
 use mathlib.Core.Logic.{_≢_}

@@ -1,9 +1,13 @@
--- What a match and a step leave alone, and TCR1 in a tick: `time-passes`.
-use Prim.Native.Nat.{ℕ, zero, suc, _+_, _%_}
+-- What a match, a step and a service leave alone, and the clock and the registers in a tick: `time-passes`.
+use Prim.Native.Nat.{ℕ, zero, suc, _+_, _%_, _≤_}
 use native.Mathlib.Omega.{arith}
+use mathlib.Core.Bool.{true}
+use mathlib.Core.Logic.{_≢_}
 use mathlib.Core.Path.{_≡_, refl, ap, _∙_}
 use lib.Dec.{eqb}
+use lib.ListN.{getD}
 use Rattle.words.specs.Clock.{due, later}
+use Rattle.words.specs.Field.{field}
 use Rattle.words.proofs.ChoiceLaws.{pick-cases}
 use Rattle.motor.specs.declared.Way.{Way}
 use Rattle.motor.specs.declared.Phase.{Phase}
@@ -11,10 +15,11 @@ use Rattle.motor.specs.declared.Phase.the-variants.{Resting, Requested, Armed, 
 use Rattle.motor.specs.declared.Outcome.{Outcome}
 use Rattle.motor.specs.declared.Outcome.the-variants.{Arrived, Step}
 use Rattle.unit.specs.declared.State.{State}
-use Rattle.unit.specs.TheUnit.{withReg, withTime, withPins, withChannel, withWords, each, request, withRequest, enabled, withStatus, withPin, channel, withInitialised, withLevel, withPhase, withWord, modCount, size}
+use Rattle.unit.specs.TheUnit.{cisr, hsrrOf, reg, channelControl, pinControl, withReg, withTime, withPins, withChannel, withWords, each, request, withRequest, enabled, withStatus, withPin, channel, withInitialised, withLevel, withPhase, withWord, modCount, size}
 use Rattle.unit.specs.Stepping.{pinOut, pinsOut, nextCount, prepared, matchSet, stepped, outcome}
 use Rattle.unit.specs.OneTick.{matchOf, matched, initialise, stepRequest, requestServed, matchServed, served, clocked, tick, afterTicks}
 use Rattle.unit.specs.Passing.{TimePasses}
+use Rattle.unit.proofs.Access.{reg-other, hsrr-range}
 
 -- ---- a match and a step leave the registers and TCR1
 
@@ -59,43 +64,88 @@ left-matched i s = by ((channel s i) .phase)
     by (Armed t) = pick-cases (Left s) (due (s .tcr1) t) (λ a. record { regs = (left-pins s i) .regs; time = (left-pins s i) .time }) (λ a. left-all s)
     by (Matched t) = left-all s
 
--- ---- TCR1 in a service
+-- ---- a service leaves TCR1, and of the registers all but HSRR and CISR
 
-time-outcome : (s : State) (i reference : ℕ) (o : Outcome) → (outcome s i reference o) .tcr1 ≡ s .tcr1
-unfolding outcome withPhase withChannel withStatus withReg
-time-outcome s i reference Arrived = refl
-time-outcome s i reference (Step w k) = (left-step s i reference w k) .time
+record Spared (s t : State) : Type 0 where
+  time : t .tcr1 ≡ s .tcr1
+  registers : (i : ℕ) → i ≢ 7 → i ≢ 8 → i ≢ 11 → reg t i ≡ reg s i
 
-time-request : (i : ℕ) (s : State) → (requestServed i s) .tcr1 ≡ s .tcr1
-unfolding requestServed initialise stepRequest withInitialised withChannel withWord withWords withPin withPins withStatus withReg withRequest
-time-request i s =
-    pick-cases (λ (x : State). x .tcr1 ≡ s .tcr1) (eqb (request s i) 2) (λ a. refl)
-    (λ a. pick-cases (λ (x : State). x .tcr1 ≡ s .tcr1) (eqb (request s i) 3) (λ b. by ((channel s i) .phase)) (λ b. refl))
+spared-all : (s : State) → Spared s s
+spared-all s = record { time = refl; registers = λ i a b c. refl }
+
+spared-then : (s t u : State) → Spared s t → Spared t u → Spared s u
+spared-then s t u x y = record { time = y .time ∙ x .time; registers = λ i a b c. y .registers i a b c ∙ x .registers i a b c }
+
+spared-left : (s t : State) → Left s t → Spared s t
+unfolding reg
+spared-left s t x = record { time = x .time; registers = λ i a b c. ap (λ l. getD l i 0) (x .regs) }
+
+spared-status : (s : State) (c : ℕ) → Spared s (withStatus s c)
+unfolding withStatus withReg
+spared-status s c = record { time = refl; registers = λ i a b d. reg-other s cisr _ i d }
+
+spared-request : (s : State) (c r : ℕ) → Spared s (withRequest s c r)
+unfolding withRequest withReg
+spared-request s c r =
+    record { time = refl; registers = λ i a b d. reg-other s (hsrrOf c) _ i (by i a b) }
   where
-    by : (p : Phase) → (stepRequest p i (withRequest s i 0)) .tcr1 ≡ s .tcr1
-    by Resting = time-outcome (withRequest s i 0) i _ _
-    by Requested = time-outcome (withRequest s i 0) i _ _
-    by (Armed t) = refl
-    by (Matched t) = refl
+    by : (i : ℕ) → i ≢ 7 → i ≢ 8 → i ≡ hsrrOf c → ⊥
+    by i a b e = let h : (7 ≤ hsrrOf c) × (hsrrOf c ≤ 8) = hsrr-range c in omega arith
 
-time-served : (i : ℕ) (s : State) → (served i s) .tcr1 ≡ s .tcr1
+spared-outcome : (s : State) (i reference : ℕ) (o : Outcome) → Spared s (outcome s i reference o)
+unfolding outcome withPhase withChannel reg
+spared-outcome s i reference Arrived =
+    let x = spared-status (withPhase s i ((channel s i) .way) Resting) i in
+    record { time = x .time; registers = x .registers }
+spared-outcome s i reference (Step w k) = spared-left s _ (left-step s i reference w k)
+
+spared-initialise : (i : ℕ) (s : State) → Spared s (initialise i s)
+unfolding initialise withInitialised withChannel withWord withWords withPin withPins reg
+spared-initialise i s =
+    let x = spared-status (withInitialised (withWord (withPin s i (eqb (field 2 (channelControl s i) 0) 1)) i 0 (pinControl s i)) i true) i in
+    record { time = x .time; registers = x .registers }
+
+spared-requestServed : (i : ℕ) (s : State) → Spared s (requestServed i s)
+unfolding requestServed stepRequest
+spared-requestServed i s =
+    pick-cases (Spared s) (eqb (request s i) 2) (λ a. spared-then s u _ x (spared-initialise i u))
+    (λ a. pick-cases (Spared s) (eqb (request s i) 3) (λ b. by ((channel s i) .phase)) (λ b. spared-all s))
+  where
+    u : State
+    u = withRequest s i 0
+
+    x : Spared s u
+    x = spared-request s i 0
+
+    by : (p : Phase) → Spared s (stepRequest p i u)
+    by Resting = spared-then s u _ x (spared-outcome u i _ _)
+    by Requested = spared-then s u _ x (spared-outcome u i _ _)
+    by (Armed t) = x
+    by (Matched t) = x
+
+spared-served : (i : ℕ) (s : State) → Spared s (served i s)
 unfolding served matchServed
-time-served i s = pick-cases (λ (x : State). x .tcr1 ≡ s .tcr1) (enabled s i) (λ a. by ((channel s i) .phase) ∙ time-request i s) (λ a. refl)
+spared-served i s =
+    pick-cases (Spared s) (enabled s i) (λ a. spared-then s _ _ (spared-requestServed i s) (by ((channel s i) .phase))) (λ a. spared-all s)
   where
-    by : (p : Phase) → (matchServed p i (requestServed i s)) .tcr1 ≡ (requestServed i s) .tcr1
-    by Resting = refl
-    by Requested = refl
-    by (Armed t) = refl
-    by (Matched t) = time-outcome (requestServed i s) i t _
+    by : (p : Phase) → Spared (requestServed i s) (matchServed p i (requestServed i s))
+    by Resting = spared-all _
+    by Requested = spared-all _
+    by (Armed t) = spared-all _
+    by (Matched t) = spared-outcome (requestServed i s) i t _
 
-services-time : (n a : ℕ) (s : State) → (each n a served s) .tcr1 ≡ s .tcr1
+spared-services : (n a : ℕ) (s : State) → Spared s (each n a served s)
 unfolding each
-services-time zero a s = refl
-services-time (suc n) a s = time-served (a + n) (each n a served s) ∙ services-time n a s
+spared-services zero a s = spared-all s
+spared-services (suc n) a s = spared-then s _ _ (spared-services n a s) (spared-served (a + n) (each n a served s))
+
+ticked : (s : State) → Spared (clocked s) (tick s)
+unfolding tick
+ticked s = spared-then (clocked s) _ _ (spared-left (clocked s) _ (left-each 16 0 matched left-matched (clocked s))) (spared-services 16 0 _)
 
 one : (s : State) → (tick s) .tcr1 ≡ (s .tcr1 + 1) % 65536
-unfolding tick clocked withTime later
-one s = services-time 16 0 _ ∙ (left-each 16 0 matched left-matched (clocked s)) .time
+unfolding clocked withTime later
+one s = (ticked s) .time
 
 many : (s : State) (n : ℕ) → (afterTicks n s) .tcr1 % 65536 ≡ (s .tcr1 + n) % 65536
 unfolding afterTicks
@@ -103,4 +153,5 @@ many s zero = omega arith
 many s (suc n) = ap (λ x. x % 65536) (one (afterTicks n s)) ∙ omega (arith, many s n)
 
 pub time-passes : TimePasses
-time-passes = record { one = one; many = many }
+unfolding clocked withTime reg
+time-passes = record { one = one; many = many; registers = λ s. (ticked s) .registers }

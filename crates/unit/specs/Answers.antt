@@ -13,7 +13,7 @@ unfoldable pub readingNumber : Reading → ℕ
 readingNumber (Word w) = 0
 readingNumber (NoWord n) = n
 
--- a refused read gives no word: 0 stands for it
+-- where a read is refused 0 stands for the word that it lacks
 unfoldable pub readingWord : Reading → ℕ
 readingWord (Word w) = w
 readingWord (NoWord n) = 0

@@ -21,7 +21,7 @@ wordAddress c i = 0xf00 + (16 * c + 2 * i)
 abbrev pub Listed : ℕ → Type 0
 Listed a = (a % 2 ≡ 0) × (((0xe0a ≤ a) × (a ≤ 0xe20)) ⊎ ((0xf00 ≤ a) × (a ≤ 0xffe)))
 
--- channels 14 and 15 have eight words, the others six
+-- words 6 and 7 exist from channel 14 on
 abbrev pub Exists : ℕ → ℕ → Type 0
 Exists c i = (14 ≤ c) ⊎ (i < 6)
 
@@ -43,7 +43,7 @@ pub record Readings : Type 0 where
       → isTaken ((writeOf s (wordAddress c i) v) .answer) ≡ true → readOf ((writeOf s (wordAddress c i) v) .state) (wordAddress c i) ≡ Word v
   pub register-written : (s : State) (i v : ℕ) → Whole s → i < 11 → i ≢ 7 → i ≢ 8
       → isTaken ((writeOf s (registerAddress i) v) .answer) ≡ true → readOf ((writeOf s (registerAddress i) v) .state) (registerAddress i) ≡ Word v
-  -- a write to CISR is taken: a written 0 clears the bit, a 1 keeps it
+  -- CISR, bit by bit: where the word has 0 the bit is 0 afterwards, where it has 1 the bit stays
   pub cleared : (s : State) (v k : ℕ) → Whole s → field 1 v k ≡ 0 → field 1 (getD (((writeOf s (registerAddress 11) v) .state) .regs) 11 0) k ≡ 0
   pub kept : (s : State) (v k : ℕ) → Whole s → field 1 v k ≡ 1
       → field 1 (getD (((writeOf s (registerAddress 11) v) .state) .regs) 11 0) k ≡ field 1 (getD (s .regs) 11 0) k

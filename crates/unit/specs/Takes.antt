@@ -70,7 +70,7 @@ pub record AsksOne (r c v : ℕ) : Type 0 where
   pub others : (k : ℕ) → k < 8 → k ≢ c % 8 → field 2 v (2 * k) < 2
 
 -- what the word v of register i asks of channels below m may be asked of each of them alone, and none that it asks lies in the group of a
--- lower one that it sets going. Document 01, "Questions at the gate": the lowest first, as if the lower ones were already taken
+-- lower one that it sets going. Document 01, "Questions at the gate": an HSRR word
 pub record Together (i v m : ℕ) (s : State) : Type 0 where
   pub initialise : (c : ℕ) → c / 8 ≡ 8 - i → c < m → field 2 v (2 * (c % 8)) ≡ 2 → MayInitialise c s
   pub step : (c : ℕ) → c / 8 ≡ 8 - i → c < m → field 2 v (2 * (c % 8)) ≡ 3 → MayStep c s ⊎ MayRepeat c s
@@ -148,7 +148,7 @@ pub record Takes : Type 0 where
   -- CIER, HSQR, CPR and CISR are always taken; so is a missing word, and nothing changes
   pub others : (s : State) (i v : ℕ) → ((i ≡ 0) ⊎ ((5 ≤ i) × (i ≤ 6))) ⊎ ((9 ≤ i) × (i ≤ 11)) → isTaken ((writeOf s (registerAddress i) v) .answer) ≡ true
   pub missing : (s : State) (c i v : ℕ) → c < 14 → 6 ≤ i → i < 8 → writeOf s (wordAddress c i) v ≡ record { answer = Taken; state = s }
-  -- the first no gives its number: 1 for an address that is not in the list, 2 for a word or a CFSR field of a channel that is not free, 3 for
+  -- the numbers else: 1 for an address that is not in the list, 2 for a word or a CFSR field of a channel that is not free, 3 for
   -- a further request of another function
   pub outside : (s : State) (a v : ℕ) → (Listed a → ⊥) → (writeOf s a v) .answer ≡ Refused 1
   pub word-number : (s : State) (c i v : ℕ) → c < 16 → i < 8 → Exists c i → (i ≡ 3 → stepping s c ≡ false) → (Free c s → ⊥)
