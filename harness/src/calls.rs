@@ -137,6 +137,15 @@ impl Maker {
     pub fn new(seed: u64) -> Maker {
         let mut random = Random::new(seed);
         let motors = layout(&mut random);
+        Maker::over(motors, random)
+    }
+
+    /// Other plans for the motors of the list of a seed.
+    pub fn beside(seed: u64, other: u64) -> Maker {
+        Maker::over(layout(&mut Random::new(seed)), Random::new(other))
+    }
+
+    fn over(motors: Vec<Motor>, random: Random) -> Maker {
         let mut maker = Maker {
             random,
             unit: Plain::default(),
@@ -187,6 +196,12 @@ impl Maker {
             _ => self.odd_advance(),
         }
     }
+}
+
+/// The first and last channels of the motors in the list of a seed.
+pub fn motors(seed: u64) -> Vec<(usize, usize)> {
+    let motors = layout(&mut Random::new(seed));
+    motors.iter().map(|m| (m.first, m.last)).collect()
 }
 
 /// Two or more motors of two to eight channels, with or without gaps.

@@ -10,6 +10,8 @@ use Rattle.unit.specs.TheUnit.{resetState}
 use Rattle.unit.specs.Calls.{Call, Read, Write, Advance, run}
 use Rattle.history.specs.Moments.{Typed}
 use Rattle.history.proofs.Listed.{term-3-of, always-of, slow-moves-of}
+use Rattle.isolation.specs.Isolated.{HappensIn}
+use Rattle.isolation.proofs.Runs.{words-in, isolated-of}
 use Rattle.blocks.specs.Claims.{Bytes}
 use Rattle.blocks.proofs.SoundLaws.{word-fits}
 use Rattle.keeping.specs.declared.Chosen.{Chosen}
@@ -84,4 +86,12 @@ from-board : (listed : List Call) → FromBoard listed → Typed listed
 from-board listed x = subst Typed (sym (x .come)) (all-typed (x .board) resetState (x .typed))
 
 pub board-history : BoardHistory
-board-history = record { returns = list-plays; parts = list-parts; term-3 = term-3-of FromBoard from-board; always = always-of FromBoard from-board; slow-moves = slow-moves-of FromBoard from-board }
+board-history =
+    record {
+      returns = list-plays;
+      parts = list-parts;
+      term-3 = term-3-of FromBoard from-board;
+      always = always-of FromBoard from-board;
+      slow-moves = slow-moves-of FromBoard from-board;
+      isolated = isolated-of (HappensIn FromBoard) (words-in FromBoard from-board);
+    }

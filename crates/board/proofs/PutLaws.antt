@@ -8,7 +8,7 @@ use lib.Dec.{eqb}
 use lib.ListN.{getD}
 use borrow.Author.Tests.{eqb-true, eqb-false}
 use Rattle.words.specs.Field.{field}
-use Rattle.words.proofs.ChoiceLaws.{pick-cases, fails, not-both}
+use Rattle.words.proofs.ChoiceLaws.{fails, not-both}
 use Rattle.motor.specs.Group.{bound}
 use Rattle.unit.specs.declared.State.{State}
 use Rattle.unit.specs.declared.Channel.{Channel}
@@ -20,21 +20,14 @@ use Rattle.unit.specs.Calls.{wordAt}
 use Rattle.unit.proofs.Reset.{Sized}
 use Rattle.unit.proofs.Access.{sized-reg, sized-word, word-same, reg-same, reg-other, channel-same, channel-other, channel-keeps, hsrr-range}
 use Rattle.history.specs.Leaves.{WordLeaves}
-use Rattle.history.proofs.Writes.{stored-at, sized-initialised}
+use Rattle.history.proofs.Writes.{stored-at, stored-cases}
+use Rattle.history.proofs.LitWrites.{sized-stored}
 use Rattle.history.proofs.Leaves.{word-leaves}
 use Rattle.board.specs.Loads.{isSettingRegister}
 use Rattle.board.proofs.AddressLaws.{register-cases, Settled}
 use Rattle.board.proofs.WriteLaws.{Still, deedAt, put, not-requests}
 
 -- ---- a stored word
-
--- P of a stored word's state: with CHANNEL_CONTROL the channel is uninitialised
-stored-cases : (P : State → Type 0) (s : State) (c i v : ℕ) → i < 8
-    → (i ≡ 0 → P (withInitialised (withWord s c i v) c false)) → P (withWord s c i v) → P (stored s (8 * c + i) v)
-stored-cases P s c i v l control other = rw (stored-at s c i v l) (pick-cases P (eqb i 0) (λ t. control (eqb-true i 0 t)) (λ t. other))
-
-stored-sized : (s : State) (c i v : ℕ) → i < 8 → Sized s → Sized (stored s (8 * c + i) v)
-stored-sized s c i v l z = stored-cases Sized s c i v l (λ e. sized-initialised _ c false (sized-word s c i v z)) (sized-word s c i v z)
 
 stored-word : (s : State) (c i v : ℕ) → c < 16 → i < 8 → Sized s → word (stored s (8 * c + i) v) c i ≡ v
 unfolding withInitialised withChannel word
@@ -132,7 +125,7 @@ keeps-still s t x f c h =
 pub put-sized : (s : State) (p : Place) (v : ℕ) → Settled p → Sized s → Sized (put p v s)
 unfolding put deedAt done Settled
 put-sized s (AtRegister i) v x z = sized-reg s i v z
-put-sized s (AtWord c i) v x z = stored-sized s c i v (x .1) z
+put-sized s (AtWord c i) v x z = sized-stored s (8 * c + i) v z
 put-sized s Nowhere v x z = absurd x
 
 small-register : (i : ℕ) → isSettingRegister i ≡ true → i < 12

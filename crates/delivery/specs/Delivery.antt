@@ -14,8 +14,10 @@ use Rattle.history.specs.Leaves.{WritesLeave}
 use Rattle.history.specs.Always.{Always}
 use Rattle.history.specs.Term3.{CallsAre, Term3}
 use Rattle.history.specs.SlowMoves as history
+use Rattle.isolation.specs.Isolated.{Isolated}
 use Rattle.trials.specs.Trials.{Trials}
 use Rattle.trials.specs.History.{Met}
+use Rattle.trials.specs.Frames.{Frames, Across}
 use Rattle.text.specs.Claims.{DecimalShort}
 use Rattle.parse.specs.Claims as parse
 use Rattle.script.specs.Claims as script
@@ -106,6 +108,13 @@ pub record RateCount : Type 0 where
   pub moves : motor.SlowMoves
   pub history : history.SlowMoves
 
+-- request #105: every two lists of calls; two that meet its premises; and what would be wrong without the one about groups. `history` of
+-- `Settings` has it with saves and loads
+pub record TwoFrames : Type 0 where
+  pub isolated : Isolated
+  pub frames : Frames
+  pub across : Across
+
 pub record Delivered : Type 0 where
   pub term-1 : EveryCall
   pub term-2 : EveryTick
@@ -114,3 +123,4 @@ pub record Delivered : Type 0 where
   pub sheet : MotorSheet
   pub settings : Settings
   pub rate-count : RateCount
+  pub two-frames : TwoFrames

@@ -10,7 +10,6 @@ use borrow.Author.Tests.{le-leb, eq-eqb, ne-eqb, eqb-true, eqb-false}
 use Rattle.words.specs.Choice.{pick}
 use Rattle.words.specs.Field.{field, bitOf}
 use Rattle.words.proofs.ChoiceLaws.{pick-cases, not-both, fails, and-right}
-use Rattle.motor.specs.Group.{bound}
 use Rattle.unit.specs.declared.State.{State}
 use Rattle.unit.specs.declared.Channel.{Channel}
 use Rattle.unit.specs.TheUnit.{reg, cprOf, enabled, status, word, hsrrOf, pin, reaches, isBound, last, idle, resetState, request, channel, channelControl, pinControl, position, stepping}
@@ -30,7 +29,7 @@ use Rattle.history.proofs.Asked.{asked}
 use Rattle.history.proofs.Initialise.{Settled, settled}
 use Rattle.history.proofs.Lit.{Lit, ReachedBy, reached-by, tick-outcome, initialised-pin, lit-tick}
 use Rattle.unit.proofs.Reset.{same-all}
-use Rattle.history.proofs.Fine.{Fine, none-asked, fine-reset, fine-tick}
+use Rattle.history.proofs.Fine.{none-stepping, Fine, none-asked, fine-reset, fine-tick}
 use Rattle.history.proofs.Chain.{tick-held}
 use Rattle.history.proofs.Calls.{Words, words-acts, words-first}
 use Rattle.history.proofs.Shown.{Every, shown-tick}
@@ -52,14 +51,14 @@ good-through (writes a v ∷ xs) s w x = good-through xs _ (w .1) (good-write a 
 good-through (nothing ∷ xs) s w x = good-through xs s w x
 
 every-reset : Every resetState
-unfolding Every stepping channel bound
-every-reset p l g = absurd (not-both g (ap (λ (y : Channel). bound (y .phase)) (same-all idle 16 p)))
+unfolding Every
+every-reset p l g = absurd (not-both g (none-stepping p))
 
 lit-reset : Lit resetState
-unfolding stepping channel bound
+unfolding channel
 lit-reset =
     record {
-      seen = λ p j l g. absurd (not-both g (ap (λ (y : Channel). bound (y .phase)) (same-all idle 16 p)));
+      seen = λ p j l g. absurd (not-both g (none-stepping p));
       rests = λ j l u i. absurd (not-both i (ap (λ (y : Channel). y .initialised) (same-all idle 16 j)));
       asked = λ j l q. absurd (let k : _≡_ {A = ℕ} 0 2 = sym (none-asked j) ∙ q in omega arith);
     }

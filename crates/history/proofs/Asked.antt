@@ -5,10 +5,9 @@ use native.Mathlib.Nat.{eq-or-lt-of-le}
 use mathlib.Core.Bool.{Bool, true, false, _&&_}
 use mathlib.Core.Path.{_≡_, refl, ap, sym, subst, _∙_}
 use mathlib.Core.Logic.{_≢_, ⊎-elim}
-use lib.Dec.{eqb, ltb, leb}
-use borrow.Author.Tests.{eqb-true, ltb-true}
+use lib.Dec.{eqb, leb}
 use Rattle.words.specs.Field.{field}
-use Rattle.words.proofs.ChoiceLaws.{pick-cases, not-both, and-left, and-right}
+use Rattle.words.proofs.ChoiceLaws.{pick-cases, not-both}
 use Rattle.words.proofs.FieldLaws.{field-lt}
 use Rattle.motor.specs.declared.Phase.the-variants.{Requested}
 use Rattle.motor.specs.Group.{bound}
@@ -29,7 +28,7 @@ use Rattle.history.specs.Moments.{isStepOf, SetsGoing}
 use Rattle.history.specs.Leaves.{RegisterLeaves}
 use Rattle.history.proofs.Frame.{sized-phase}
 use Rattle.history.proofs.Alone.{less-reach}
-use Rattle.history.proofs.Walk.{IfYes, yes-then, yes-map, taken-yes, Allowed, walk-channel, walk-register, channel-asks, channels-ask}
+use Rattle.history.proofs.Walk.{IfYes, yes-then, yes-map, taken-yes, step-of, Allowed, walk-channel, walk-register, channel-asks, channels-ask}
 use Rattle.history.proofs.Leaves.{requests-leave}
 use Rattle.history.proofs.Fine.{Fine, fine-requests}
 use Rattle.history.proofs.Begin.{unreached, unbound-still, below-leave}
@@ -141,17 +140,14 @@ unfolding isStepOf askPlace hsrrOf
 asked-place c v (AtWord j i) s e f g t = absurd (not-both e refl)
 asked-place c v Nowhere s e f g t = absurd (not-both e refl)
 asked-place c v (AtRegister i) s e f g t =
-    let a : i ≡ hsrrOf c = eqb-true i (hsrrOf c) (and-left (eqb i (hsrrOf c)) (ltb c 16 && eqb (field 2 v (2 * (c % 8))) 3) e) in
-    let b : (ltb c 16 && eqb (field 2 v (2 * (c % 8))) 3) ≡ true = and-right (eqb i (hsrrOf c)) _ e in
-    let h : c < 16 = ltb-true c 16 (and-left (ltb c 16) (eqb (field 2 v (2 * (c % 8))) 3) b) in
-    let r : field 2 v (2 * (c % 8)) ≡ 3 = eqb-true (field 2 v (2 * (c % 8))) 3 (and-right (ltb c 16) (eqb (field 2 v (2 * (c % 8))) 3) b) in
+    let k : (i ≡ hsrrOf c) × (c < 16) × (field 2 v (2 * (c % 8)) ≡ 3) = step-of i v c e in
     taken-yes (λ x. MayStep c s) s (askRegister s i v)
     (walk-register (λ x. MayStep c s) s i v
     record {
       keep = λ m. absurd (omega arith);
       plain = λ m n o. absurd (⊎-elim (λ y. omega arith) (λ y. omega arith) o);
       functions = λ m n o. absurd (omega arith);
-      requests = λ m n. asked-word 8 i c v s (omega arith) m n (omega arith) (omega arith) r f g;
+      requests = λ m n. asked-word 8 i c v s (omega arith) m n (omega arith) (omega arith) (k .2) f g;
     })
     t
 

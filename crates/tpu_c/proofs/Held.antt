@@ -8,10 +8,8 @@ use borrow.Author.Tests.{eq-eqb}
 use Rattle.words.proofs.ChoiceLaws.{pick-cases, not-both}
 use Rattle.unit.specs.declared.State.{State}
 use Rattle.unit.specs.declared.Answered.{Answered}
-use Rattle.unit.specs.declared.Verdict.{Verdict}
-use Rattle.unit.specs.declared.Verdict.the-variants.{Taken as Does, Refused as Stops}
-use Rattle.unit.specs.Gate.{gate, advanceGood}
-use Rattle.unit.specs.Calls.{answeredBy, writeOf, advanceOf, isTaken}
+use Rattle.unit.specs.Gate.{advanceGood}
+use Rattle.unit.specs.Calls.{advanceOf, isTaken}
 use Rattle.pack.specs.Packing.{stateWords, packed, isWhole, laid, unpacked}
 use Rattle.tpu_c.specs.Numbers.{wordsAfter}
 
@@ -19,16 +17,7 @@ pub laid-whole : (st : State) (s : List ℕ) → length s ≡ stateWords → lai
 unfolding laid isWhole
 laid-whole st s h = rw (eq-eqb _ stateWords h)
 
--- a call that is not taken returns the state that it was given
-answered-keeps : (v : Verdict) (s : State) → isTaken ((answeredBy v s) .answer) ≡ false → (answeredBy v s) .state ≡ s
-unfolding answeredBy isTaken
-answered-keeps (Does d) s h = absurd (not-both refl h)
-answered-keeps (Stops n) s h = refl
-
-pub write-keeps : (s : State) (a v : ℕ) → isTaken ((writeOf s a v) .answer) ≡ false → (writeOf s a v) .state ≡ s
-unfolding writeOf
-write-keeps s a v h = answered-keeps (gate s a v) s h
-
+-- an advance that is not taken returns the state that it was given
 pub advance-keeps : (s : State) (n : ℕ) (lent : List ℕ) → isTaken ((advanceOf s n lent) .answer) ≡ false → (advanceOf s n lent) .state ≡ s
 unfolding advanceOf isTaken
 advance-keeps s n lent =

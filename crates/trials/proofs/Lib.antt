@@ -1,3 +1,5 @@
 pub mod Leaps
 pub mod Trials
 pub mod History
+pub mod Premises
+pub mod Frames

@@ -1,2 +1,3 @@
 pub mod Trials
 pub mod History
+pub mod Frames

@@ -21,6 +21,7 @@ rows =
       row-right = (refl, refl, refl, refl, refl, refl);
       row-left = (refl, refl, refl, refl, refl, refl);
       row-pins = refl;
+      row-beside = (refl, refl, refl);
       row-stored = refl;
       row-wrap = (refl, refl);
       row-behind = refl;

@@ -8,7 +8,7 @@ use lib.ListN.{replicate}
 use Rattle.motor.specs.declared.Way.the-variants.{Right}
 use Rattle.motor.specs.declared.Phase.the-variants.{Armed, Matched}
 use Rattle.unit.specs.declared.State.{State}
-use Rattle.unit.specs.TheUnit.{resetState, cisr, withTime, reg, withRequest, channel, withPhase, word, position, target}
+use Rattle.unit.specs.TheUnit.{resetState, cisr, withTime, withPins, reg, withRequest, channel, withPhase, word, withWord, position, target}
 use Rattle.unit.specs.OneTick.{matched, tick, afterTicks}
 use Rattle.unit.specs.Gate.{advanceGood, gate}
 use Rattle.unit.specs.Calls.{pinWords, Call, Write, Advance, writeOf, run}
@@ -53,6 +53,9 @@ pub record Rows : Type 0 where
       × (shows (afterTicks 24 (goes 7 3)) ≡ 0x0 ∷ 3 ∷ 3073 ∷ 0x4218 ∷ 0x2341 ∷ 0x10 ∷ [])
   -- the pin word of each tick is its own
   pub row-pins : pinWords 2 (afterTicks 22 (goes 0 4)) ≡ 0x20 ∷ 0x0 ∷ []
+  -- a step and its match leave the pins and patterns of the channels beside the group
+  pub row-beside : ((afterTicks 12 (withPins (goes 0 4) 0xffdf)) .pins ≡ 0xffcf)
+      × (word (afterTicks 12 (withWord (goes 0 4) 6 0 0x1234)) 6 0 ≡ 0x1234) × (word (afterTicks 12 (withWord (goes 0 4) 3 0 0x1234)) 3 0 ≡ 0x1234)
   -- a step request that no write has stored, of a group at rest: the test follows (N14)
   pub row-stored : shows (tick (withRequest (run resetState (ready 0 4)) 4 3)) ≡ 0x10 ∷ 1 ∷ 258 ∷ 0xc210 ∷ 0x91a ∷ 0x0 ∷ []
   -- a match beyond the wrap of TCR1 is not due before it

@@ -14,8 +14,10 @@ use Rattle.history.proofs.Leaves.{writes-leave}
 use Rattle.history.proofs.Always.{always}
 use Rattle.history.proofs.Term3.{term-3}
 use Rattle.history.proofs.SlowMoves as history
+use Rattle.isolation.proofs.Runs.{isolated}
 use Rattle.trials.proofs.Trials.{trials}
 use Rattle.trials.proofs.History.{met}
+use Rattle.trials.proofs.Frames.{frames, across}
 use Rattle.text.proofs.LengthLaws.{decimal-short}
 use Rattle.parse.proofs.LineLaws as parse
 use Rattle.script.proofs.LengthLaws as script
@@ -41,7 +43,7 @@ use Rattle.board.proofs.SaveLaws.{saves}
 use Rattle.board.proofs.LoadLaws.{loads}
 use Rattle.board.proofs.RoundTripLaws.{round-trip}
 use Rattle.board.proofs.HistoryLaws.{board-history}
-use Rattle.delivery.specs.Delivery.{EveryCall, EveryTick, EveryHistory, AtTheBench, MotorSheet, Settings, RateCount}
+use Rattle.delivery.specs.Delivery.{EveryCall, EveryTick, EveryHistory, AtTheBench, MotorSheet, Settings, RateCount, TwoFrames}
 use Rattle.delivery.proofs.delivered.Statement.{statement}
 use Rattle.delivery.proofs.delivered.Tie as tie
 
@@ -100,9 +102,21 @@ settings =
 rate-count : RateCount
 rate-count = record { ends = slow-ends; moves = motor.slow-moves; history = history.slow-moves }
 
+two-frames : TwoFrames
+two-frames = record { isolated = isolated; frames = frames; across = across }
+
 returns : tie.Need-returns
 returns c =
-    record { term-1 = every-call; term-2 = every-tick; term-3 = every-history; bench = bench; sheet = sheet; settings = settings; rate-count = rate-count }
+    record {
+      term-1 = every-call;
+      term-2 = every-tick;
+      term-3 = every-history;
+      bench = bench;
+      sheet = sheet;
+      settings = settings;
+      rate-count = rate-count;
+      two-frames = two-frames;
+    }
 
 pub delivered-spec : {M : Type 1} → statement M
 delivered-spec = tie.close (tie.spec returns)

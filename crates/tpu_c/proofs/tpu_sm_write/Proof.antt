@@ -4,7 +4,8 @@ use Rattle.unit.specs.declared.State.{State}
 use Rattle.unit.specs.Calls.{writeOf}
 use Rattle.pack.specs.Packing.{isWhole}
 use Rattle.tpu_c.specs.Numbers.{writeAnswer, writeWords, writeState}
-use Rattle.tpu_c.proofs.Held.{write-keeps, held-by}
+use Rattle.unit.proofs.Places.{write-kept}
+use Rattle.tpu_c.proofs.Held.{held-by}
 use borrow.Author.Needs.{needs}
 use Rattle.tpu_c.proofs.tpu_sm_write.Statement.{statement}
 use Rattle.tpu_c.proofs.tpu_sm_write.Tie as tie
@@ -37,7 +38,7 @@ returns-2 c =
     let e = eq-eqb _ 174 (u .before .before .if1 .left) in
     let r = w .write .ensures .0 ∙ ap (λ (x : State). writeOf x (given .address) (given .value)) (u .unpack .ensures) in
     let last = f .finish .ensures .1 in
-    (rw (e, ← r) (f .finish .ensures .0), rw (e, ← r) last, rw (e, last) (held-by _ _ _ r (f .finish .ensures .2) (write-keeps _ _ _)))
+    (rw (e, ← r) (f .finish .ensures .0), rw (e, ← r) last, rw (e, last) (held-by _ _ _ r (f .finish .ensures .2) (write-kept _ _ _)))
 
 pub tpu-sm-write-spec : {M : Type 1} → statement M
 tpu-sm-write-spec =

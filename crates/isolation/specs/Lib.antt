@@ -1,0 +1,3 @@
+pub mod Row
+pub mod Abreast
+pub mod Isolated
