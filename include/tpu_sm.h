@@ -20,7 +20,7 @@ extern "C" {
 #endif
 
 /* How many words hold a state. */
-#define TPU_SM_STATE_WORDS 174
+#define TPU_SM_STATE_WORDS 175
 
 /* The same number, as the archive has it. */
 uint32_t tpu_sm_state_words(void);
@@ -57,11 +57,12 @@ uint16_t tpu_sm_interrupt_line(const uint16_t *state, size_t state_words);
 #define TPU_SM_BAD_CONTROL 4
 /* N is not 1 to 14, the last channel is not one to seven above the primary, or another bit of that word is set */
 #define TPU_SM_BAD_SPAN 5
-/* a channel of the group has another function, is not initialised, is bound, or has a request */
+/* a channel of the group has another function, is not initialised, is bound, has a request, or goes by another timer than
+   the primary */
 #define TPU_SM_GROUP_NOT_READY 6
 /* the next rate is not 1, another bit of that word is set, or a pattern is not turned by MOD_CNT */
 #define TPU_SM_BAD_PATTERN 7
-/* the step at rate N would take less than 1 tick, or that at rate 1 more than 0x7FFF */
+/* the step at rate N would take less than 1 count of the group's timer, or that at rate 1 more than 0x7FFF */
 #define TPU_SM_BAD_RAMP 8
 /* the target is above 0xFFFF - N */
 #define TPU_SM_TARGET_TOO_FAR 9
@@ -117,7 +118,8 @@ uint16_t tpu_sm_interrupt_line(const uint16_t *state, size_t state_words);
 #define TPU_SM_COUNT_AND_RATE(primary) TPU_SM_PARAMETER(primary, 4)
 /* STEP_RATE_CNT, which is N, and LAST_SEC_CHAN, in one word */
 #define TPU_SM_TOP_AND_LAST(primary) TPU_SM_PARAMETER(primary, 5)
-/* the ramp stands in the channel after the primary: a step at rate r takes STEP_CNTL1 - STEP_CNTL0 * (1 + r) ticks */
+/* the ramp stands in the channel after the primary: a step at rate r takes STEP_CNTL1 - STEP_CNTL0 * (1 + r) counts of the
+   group's timer, which are ticks for TCR1 and eight ticks each for TCR2 */
 #define TPU_SM_STEP_CNTL0(primary) TPU_SM_PARAMETER((primary) + 1, 2)
 #define TPU_SM_STEP_CNTL1(primary) TPU_SM_PARAMETER((primary) + 1, 3)
 
@@ -130,6 +132,10 @@ uint16_t tpu_sm_interrupt_line(const uint16_t *state, size_t state_words);
 #define TPU_SM_FORCE_HIGH 0x0081u
 #define TPU_SM_FORCE_LOW 0x0082u
 #define TPU_SM_FORCE(pin_control) ((uint16_t)((pin_control)&0x8000u ? TPU_SM_FORCE_HIGH : TPU_SM_FORCE_LOW))
+/* The same for a channel that goes by TCR2 instead of TCR1. A group has channels of one timer. */
+#define TPU_SM_SLOW_HIGH 0x00E1u
+#define TPU_SM_SLOW_LOW 0x00E2u
+#define TPU_SM_SLOW(pin_control) ((uint16_t)((pin_control)&0x8000u ? TPU_SM_SLOW_HIGH : TPU_SM_SLOW_LOW))
 
 #ifdef __cplusplus
 }

@@ -89,10 +89,10 @@ pub fn call_list(seed: u64, length: usize) -> Vec<Call> {
     (0..length).map(|_| maker.next_call()).collect()
 }
 
-/// The last two are right control words for themselves.
-const PATTERNS: [u16; 16] = [
+/// The last four are right control words for themselves.
+const PATTERNS: [u16; 18] = [
     0xCCCC, 0x3333, 0x9999, 0x6666, 0xE0E0, 0x0E0E, 0x8383, 0x3838, 0xF00F, 0xAAAA, 0x8000, 0x0001,
-    0xFFFF, 0x0000, 0x8081, 0x0082,
+    0xFFFF, 0x0000, 0x8081, 0x0082, 0x80E1, 0x00E2,
 ];
 
 const OFF: u16 = 0;
@@ -302,7 +302,14 @@ impl Maker {
 
 // Setting up.
 impl Maker {
+    /// One motor in four goes by TCR2.
     fn prepare(&mut self, motor: Motor) {
+        let slow = self.random.one_in(4);
+        self.prepare_by(motor, slow);
+    }
+
+    /// By TCR2 or by TCR1; seldom a channel by the other.
+    fn prepare_by(&mut self, motor: Motor, slow: bool) {
         for address in [CFSR0, CFSR0 + 2, CFSR0 + 4, CFSR0 + 6] {
             let now = self.now(address);
             let low = 4 * (3 - (address - CFSR0) / 2) as usize;
@@ -312,7 +319,8 @@ impl Maker {
             }
         }
         for g in motor.first..=motor.last {
-            self.set_pattern(g);
+            let odd = self.random.one_in(40);
+            self.set_pattern(g, slow != odd);
         }
         self.initialise(motor);
         let place = self.place();
@@ -324,9 +332,16 @@ impl Maker {
     }
 
     /// A pattern and a right control word for it, with its free bits random.
-    fn set_pattern(&mut self, c: usize) {
-        let pattern = match self.random.below(4) {
+    /// Some patterns have the bits of the other timer.
+    fn set_pattern(&mut self, c: usize, slow: bool) {
+        let of_other = if slow {
+            [0x8081, 0x0082]
+        } else {
+            [0x80E1, 0x00E2]
+        };
+        let pattern = match self.random.below(5) {
             0 => self.random.word(),
+            1 => self.random.pick(&of_other),
             _ => self.random.pick(&PATTERNS),
         };
         let forced = if pattern & 0x8000 != 0 { 1 } else { 2 };
@@ -336,7 +351,13 @@ impl Maker {
             0
         };
         self.set(c, PIN_CONTROL, pattern);
-        self.set(c, CHANNEL_CONTROL, 0x0080 | forced | free);
+        let timer = if slow { 0x00E0 } else { 0x0080 };
+        self.set(c, CHANNEL_CONTROL, timer | forced | free);
+    }
+
+    /// The timer that a channel has, now and then the other.
+    fn timer_for(&mut self, c: usize) -> bool {
+        self.unit.view(c).slow != self.random.one_in(4)
     }
 
     /// Requests for all channels, one by one or in whole words.
@@ -443,6 +464,9 @@ impl Maker {
         if (10..4096).contains(&to_wrap) && self.random.one_in(2) {
             return self.go_over(to_wrap);
         }
+        if self.random.one_in(1500) {
+            return self.go_over_slowly();
+        }
         let n = match self.random.below(100) {
             0..=54 => self.random.between(1, 8),
             55..=79 => self.random.between(1, 200),
@@ -465,6 +489,21 @@ impl Maker {
             self.advance(n);
         }
         self.retarget(motor);
+    }
+
+    /// Past the wrap of TCR2, with a motor that goes by it.
+    fn go_over_slowly(&mut self) {
+        let motor = self.random.pick(&self.motors);
+        let to_wrap = 0x1_0000 - u32::from(self.unit.tcr2());
+        let before = self.random.between(1, 200);
+        let ticks = u32::from(TICKS_A_COUNT) * to_wrap;
+        self.advance_far(ticks.saturating_sub(before));
+        self.prepare_by(motor, true);
+        self.request(motor.first, STEP);
+        for _ in 0..4 {
+            let n = self.random.between(1, 100);
+            self.advance(n);
+        }
     }
 
     fn start(&mut self, motor: Motor) {
@@ -524,7 +563,8 @@ impl Maker {
         }
         if self.random.one_in(4) {
             let c = low + self.random.below(8) as usize;
-            self.set_pattern(c);
+            let slow = self.timer_for(c);
+            self.set_pattern(c, slow);
             word |= in_half(c, INITIALISE);
         }
         self.write(half_address(HSRR0, low), word);
@@ -595,11 +635,18 @@ impl Maker {
         let Phase::Armed(time) = self.unit.phase(motor.first) else {
             return None;
         };
-        let to_match = u32::from(time.wrapping_sub(self.unit.tcr1()));
+        let now = self.unit.tcr1();
+        let (by_timer, ticks_a_count) = if self.unit.view(motor.first).by_tcr2 {
+            (self.unit.tcr2(), TICKS_A_COUNT)
+        } else {
+            (now, 1)
+        };
+        let to_match = u32::from(time.wrapping_sub(by_timer));
         let rate = self.unit.word(motor.first, MOD_AND_RATE) & 15;
         let per_rate = self.unit.word(motor.first + 1, STEP_CNTL0);
         let period = self.unit.word(motor.first + 1, STEP_CNTL1) - per_rate * (1 + rate);
-        Some(to_match + u32::from(period) + 0x8000 - 1)
+        let counts = to_match + u32::from(period) + 0x8000;
+        Some(u32::from(ticks_a_count) * counts - u32::from(now % ticks_a_count) - 1)
     }
 }
 
@@ -615,7 +662,7 @@ impl Maker {
             return self.prepare(motor);
         }
         let other = self.random.between(motor.first as u32, motor.last as u32) as usize;
-        match self.random.below(13) {
+        match self.random.below(14) {
             0 => self.wrong_function(motor.first, STEP),
             1 => self.wrong_function(other, INITIALISE),
             2 => self.wrong_control(other),
@@ -623,6 +670,7 @@ impl Maker {
             4 | 5 => self.wrong_ramp(motor),
             6 => self.meddle(other),
             7 => self.initialise_again(motor, other),
+            8 => self.change_timer(motor, other),
             _ => self.wrong_word(motor, other),
         }
     }
@@ -682,7 +730,8 @@ impl Maker {
     }
 
     fn wrong_control(&mut self, c: usize) {
-        self.set_pattern(c);
+        let slow = self.timer_for(c);
+        self.set_pattern(c, slow);
         let flipped = self
             .random
             .pick(&[0x01, 0x02, 0x03, 0x20, 0x40, 0x80, 0x100, 0x180]);
@@ -699,7 +748,8 @@ impl Maker {
 
     /// Writes to a channel while its initialise is pending.
     fn meddle(&mut self, c: usize) {
-        self.set_pattern(c);
+        let slow = self.timer_for(c);
+        self.set_pattern(c, slow);
         self.request(c, INITIALISE);
         let function = self.random.below(16) as u16;
         let word = self.random.below(8) as usize;
@@ -717,8 +767,9 @@ impl Maker {
 
     /// A second initialise pending on a channel that was ready.
     fn initialise_again(&mut self, motor: Motor, other: usize) {
+        let by_itself = self.random.pick(&[[0x8081, 0x0082], [0x80E1, 0x00E2]]);
         for g in motor.first..=motor.last {
-            let pattern = self.random.pick(&[0x8081, 0x0082]);
+            let pattern = self.random.pick(&by_itself);
             self.set(g, PIN_CONTROL, pattern);
             self.set(g, CHANNEL_CONTROL, pattern);
         }
@@ -728,6 +779,19 @@ impl Maker {
         self.request(motor.first, STEP);
         self.advance(1);
         self.request(motor.first, STEP);
+    }
+
+    /// One channel is initialised for the other timer, then all are.
+    fn change_timer(&mut self, motor: Motor, other: usize) {
+        let slow = !self.unit.view(other).slow;
+        self.set_pattern(other, slow);
+        self.request(other, INITIALISE);
+        self.advance(1);
+        self.request(motor.first, STEP);
+        if !self.random.one_in(4) {
+            self.prepare_by(motor, slow);
+            self.request(motor.first, STEP);
+        }
     }
 
     /// A group that ends among the channels of another motor.

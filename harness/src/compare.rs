@@ -30,6 +30,7 @@ pub fn see(unit: &mut dyn Unit, call: Call, depth: Depth) -> Seen {
     let mut state = unit.snapshot();
     if depth == Depth::Shown {
         state.tcr1 = 0;
+        state.tcr2 = 0;
         state.channels = Default::default();
     }
     Seen {
@@ -87,6 +88,7 @@ impl Difference {
             note(&mut lines, format!("${address:03X}"), Hex(a), Hex(b));
         }
         note(&mut lines, "TCR1", Hex(one.tcr1), Hex(other.tcr1));
+        note(&mut lines, "TCR2", Hex(one.tcr2), Hex(other.tcr2));
         note(&mut lines, "pins", Hex(one.pins), Hex(other.pins));
         for (c, (a, b)) in one.channels.iter().zip(&other.channels).enumerate() {
             note(&mut lines, format!("channel {c}"), a, b);

@@ -1,15 +1,16 @@
 //! The state in the words that a caller of the archive lends: 128 parameter
-//! words, 12 registers, TCR1, pins, 16 words of flags and 16 of times.
+//! words, 12 registers, TCR1, TCR2, pins, 16 words of flags and 16 of times.
 
 use crate::unit::{ChannelView, Phase, Snapshot};
 
-pub const WORDS: usize = 174;
+pub const WORDS: usize = 175;
 
 const REGISTERS: usize = 128;
 const TCR1: usize = 140;
-const PINS: usize = 141;
-const FLAGS: usize = 142;
-const TIMES: usize = 158;
+const TCR2: usize = 141;
+const PINS: usize = 142;
+const FLAGS: usize = 143;
+const TIMES: usize = 159;
 
 /// The state that the words stand for. Any words stand for one: bits of the
 /// flags that mean nothing, and times that the phase has no use for, are
@@ -27,6 +28,7 @@ pub fn unpack(words: &[u16; WORDS]) -> Snapshot {
         registers,
         words: parameters,
         tcr1: words[TCR1],
+        tcr2: words[TCR2],
         pins: words[PINS],
         channels,
     }
@@ -35,6 +37,8 @@ pub fn unpack(words: &[u16; WORDS]) -> Snapshot {
 fn channel_of(flags: u16, time: u16) -> ChannelView {
     ChannelView {
         initialised: flags & 1 != 0,
+        slow: flags & 0x20 != 0,
+        by_tcr2: flags & 0x40 != 0,
         level: flags & 2 != 0,
         left: flags & 4 != 0,
         phase: match (flags >> 3) & 3 {
@@ -52,6 +56,7 @@ pub fn pack(state: &Snapshot) -> [u16; WORDS] {
     words[..REGISTERS].copy_from_slice(&state.words);
     words[REGISTERS..TCR1].copy_from_slice(&state.registers);
     words[TCR1] = state.tcr1;
+    words[TCR2] = state.tcr2;
     words[PINS] = state.pins;
     for (c, channel) in state.channels.iter().enumerate() {
         (words[FLAGS + c], words[TIMES + c]) = words_of(channel);
@@ -69,6 +74,8 @@ fn words_of(channel: &ChannelView) -> (u16, u16) {
     let flags = u16::from(channel.initialised)
         | u16::from(channel.level) << 1
         | u16::from(channel.left) << 2
-        | phase << 3;
+        | phase << 3
+        | u16::from(channel.slow) << 5
+        | u16::from(channel.by_tcr2) << 6;
     (flags, time)
 }

@@ -1,5 +1,5 @@
-//! The timer unit of document 01 as plain Rust, state by `&mut`. To try the
-//! harness it can make one of the blunders that fitters have seen.
+//! The timer unit of document 01, with #103 and #106 of paper 02, as plain
+//! Rust, state by `&mut`. To try the harness it can make a blunder on purpose.
 
 use crate::unit::{ChannelView, Phase, Snapshot, Unit};
 
@@ -18,6 +18,13 @@ pub const MAX_TICKS: u32 = 4096;
 
 const INITIALISE: u16 = 2;
 const STEP: u16 = 3;
+
+/// TCR2 rises once in so many ticks.
+pub const TICKS_A_COUNT: u16 = 8;
+
+// Bits 8 to 5 of CHANNEL_CONTROL: capture and match by a timer.
+const BY_TCR1: u16 = 4;
+const BY_TCR2: u16 = 7;
 
 // Parameter words of a channel.
 pub const CHANNEL_CONTROL: usize = 0;
@@ -64,6 +71,11 @@ fn exists(c: usize, word: usize) -> bool {
     word < 6 || c >= 14
 }
 
+/// Bits 8 to 5 of a CHANNEL_CONTROL.
+fn timing(control: u16) -> u16 {
+    (control >> 5) & 15
+}
+
 /// Yes lets the questions go on, no ends them with the number.
 fn ask(answer: bool, number: u8) -> Result<(), u8> {
     if answer {
@@ -74,13 +86,14 @@ fn ask(answer: bool, number: u8) -> Result<(), u8> {
 }
 
 /// A fault to be found. The first four are those of document 01, the fifth is
-/// the first board that its conditions of acceptance shut out, the last is the
-/// turn as it was before paper 02, #103.
+/// the first board that its conditions of acceptance shut out, the sixth is the
+/// turn as it was before paper 02, #103, and the others are about the timers of
+/// #106.
 #[derive(Clone, Copy, Debug, PartialEq, Eq)]
 pub enum Blunder {
     /// MOD_CNT counts visits to a turn, not steps.
     CountsVisits,
-    /// TCR1 is compared with reference time plus period as plain numbers.
+    /// A timer is compared with reference time plus period as plain numbers.
     ComparesPlainly,
     /// The motor turns at once where the target lies behind.
     TurnsWhileFast,
@@ -90,6 +103,16 @@ pub enum Blunder {
     LightsAtRequest,
     /// The motor takes up speed at a distance of N already.
     AcceleratesAtN,
+    /// TCR2 rises in every seventh tick.
+    RisesInSeven,
+    /// The kind is what CHANNEL_CONTROL says when steps are requested.
+    KindAtRequest,
+    /// The reference time of a step request is TCR1 for every group.
+    RefersToTcr1,
+    /// Question 6 looks at the kind of the first secondary only.
+    AsksFirstKind,
+    /// Question 6 looks at the kind of the last secondary only.
+    AsksLastKind,
 }
 
 #[derive(Clone, Copy, Default)]
@@ -98,6 +121,10 @@ struct Channel {
     request: u16,
     priority: u16,
     initialised: bool,
+    /// Initialised for TCR2.
+    slow: bool,
+    /// The group goes by TCR2.
+    by_tcr2: bool,
     bound: bool,
     level: bool,
     left: bool,
@@ -111,6 +138,9 @@ struct Channel {
 pub struct Plain {
     blunder: Option<Blunder>,
     tcr1: u16,
+    tcr2: u16,
+    /// Ticks since TCR2 rose, or since reset.
+    ticks_of_count: u16,
     pins: u16,
     cier: u16,
     cisr: u16,
@@ -246,7 +276,8 @@ impl Plain {
         let control = self.words[c][CHANNEL_CONTROL];
         let high = self.words[c][PIN_CONTROL] & 0x8000 != 0;
         let pin_bits = if high { 1 } else { 2 };
-        ask((control >> 5) & 15 == 4 && control & 3 == pin_bits, 4)?;
+        let timed = matches!(timing(control), BY_TCR1 | BY_TCR2);
+        ask(timed && control & 3 == pin_bits, 4)?;
         self.channels[c].request = INITIALISE;
         Ok(())
     }
@@ -262,6 +293,7 @@ impl Plain {
         self.ask_group(c)?;
         self.ask_ramp_and_target(c)?;
         self.channels[c].request = STEP;
+        self.channels[c].by_tcr2 = self.is_slow(c);
         self.bind(c);
         if self.makes(Blunder::LightsAtRequest) {
             self.cisr |= 1 << c;
@@ -287,7 +319,7 @@ impl Plain {
         )?;
         for g in c..=last {
             let ready = self.channels[g].function == STEPPER && self.channels[g].initialised;
-            ask(ready && self.is_free(g), 6)?;
+            ask(ready && self.is_alike(c, g, last) && self.is_free(g), 6)?;
         }
         let tidy = self.words[c][MOD_AND_RATE] & 0xF0F0 == 0;
         ask(tidy && self.next_rate(c) == 1, 7)?;
@@ -296,6 +328,21 @@ impl Plain {
             ask(self.words[g][CHANNEL_CONTROL] == turned, 7)?;
         }
         Ok(())
+    }
+
+    /// The kind that the latest initialise gave the channel.
+    fn is_slow(&self, c: usize) -> bool {
+        if self.makes(Blunder::KindAtRequest) {
+            return timing(self.words[c][CHANNEL_CONTROL]) == BY_TCR2;
+        }
+        self.channels[c].slow
+    }
+
+    /// The channel g has the kind of the primary.
+    fn is_alike(&self, primary: usize, g: usize, last: usize) -> bool {
+        let passed_over = self.makes(Blunder::AsksFirstKind) && g != primary + 1
+            || self.makes(Blunder::AsksLastKind) && g != last;
+        passed_over || self.is_slow(g) == self.is_slow(primary)
     }
 
     /// Questions 8 and 9.
@@ -324,7 +371,7 @@ impl Plain {
         usize::from(self.words[c][COUNT_AND_LAST] & 15)
     }
 
-    /// Ticks of a step at this rate; wide, so that it can lie below zero.
+    /// Counts of a step at this rate; wide, so that it can lie below zero.
     fn period(&self, c: usize, rate: u16) -> i32 {
         let Some(ramp) = self.words.get(c + 1) else {
             return 0;
@@ -336,7 +383,7 @@ impl Plain {
 // One tick.
 impl Plain {
     fn tick(&mut self) {
-        self.tcr1 = self.tcr1.wrapping_add(1);
+        self.time_goes_on();
         for c in 0..16 {
             if let Phase::Armed(time) = self.channels[c].phase {
                 if self.is_due(c, time) {
@@ -357,12 +404,44 @@ impl Plain {
         }
     }
 
+    fn time_goes_on(&mut self) {
+        self.tcr1 = self.tcr1.wrapping_add(1);
+        self.ticks_of_count += 1;
+        let whole = if self.makes(Blunder::RisesInSeven) {
+            7
+        } else {
+            TICKS_A_COUNT
+        };
+        if self.ticks_of_count == whole {
+            self.ticks_of_count = 0;
+            self.tcr2 = self.tcr2.wrapping_add(1);
+        }
+    }
+
     fn is_due(&self, c: usize, time: u16) -> bool {
         if self.makes(Blunder::ComparesPlainly) {
             // Never, if the sum went past $FFFF.
-            return self.channels[c].kept <= Some(time) && time <= self.tcr1;
+            return self.channels[c].kept <= Some(time) && time <= self.now(c);
         }
-        self.tcr1.wrapping_sub(time) < 0x8000
+        self.now(c).wrapping_sub(time) < 0x8000
+    }
+
+    /// The time of the group of c, by its timer.
+    fn now(&self, c: usize) -> u16 {
+        if self.channels[c].by_tcr2 {
+            self.tcr2
+        } else {
+            self.tcr1
+        }
+    }
+
+    /// What the first period of a run is counted from.
+    fn reference(&self, c: usize) -> u16 {
+        if self.makes(Blunder::RefersToTcr1) {
+            self.tcr1
+        } else {
+            self.now(c)
+        }
     }
 
     /// The match happens: prepared levels to the pins, time captured.
@@ -370,7 +449,7 @@ impl Plain {
         for g in c..=self.last(c) {
             self.set_pin(g, self.channels[g].level);
         }
-        self.channels[c].phase = Phase::Matched(self.tcr1);
+        self.channels[c].phase = Phase::Matched(self.now(c));
     }
 
     fn set_pin(&mut self, c: usize, high: bool) {
@@ -393,7 +472,7 @@ impl Plain {
                     matches!(self.channels[c].phase, Phase::Armed(_) | Phase::Matched(_));
                 if !stepping {
                     self.bind(c);
-                    self.test(c, self.tcr1);
+                    self.test(c, self.reference(c));
                 }
             }
             // No history leaves 01 pending; it asks for nothing.
@@ -403,6 +482,7 @@ impl Plain {
 
     fn initialise(&mut self, c: usize) {
         self.set_pin(c, self.words[c][CHANNEL_CONTROL] & 3 == 1);
+        self.channels[c].slow = timing(self.words[c][CHANNEL_CONTROL]) == BY_TCR2;
         self.words[c][CHANNEL_CONTROL] = self.words[c][PIN_CONTROL];
         self.channels[c].initialised = true;
         self.cisr |= 1 << c;
@@ -525,6 +605,8 @@ impl Plain {
         let r = &state.registers;
         let mut plain = Plain {
             tcr1: state.tcr1,
+            tcr2: state.tcr2,
+            ticks_of_count: state.tcr1 % TICKS_A_COUNT,
             pins: state.pins,
             cier: r[0],
             cisr: r[11],
@@ -539,6 +621,8 @@ impl Plain {
                 request: (r[8 - c / 8] >> (2 * (c % 8))) & 3,
                 priority: (r[10 - c / 8] >> (2 * (c % 8))) & 3,
                 initialised: view.initialised,
+                slow: view.slow,
+                by_tcr2: view.by_tcr2,
                 level: view.level,
                 left: view.left,
                 phase: view.phase,
@@ -558,6 +642,10 @@ impl Plain {
 impl Plain {
     pub fn tcr1(&self) -> u16 {
         self.tcr1
+    }
+
+    pub fn tcr2(&self) -> u16 {
+        self.tcr2
     }
 
     pub fn pins(&self) -> u16 {
@@ -580,6 +668,8 @@ impl Plain {
         let channel = &self.channels[c];
         ChannelView {
             initialised: channel.initialised,
+            slow: channel.slow,
+            by_tcr2: channel.by_tcr2,
             level: channel.level,
             left: channel.left,
             phase: channel.phase,
@@ -626,6 +716,7 @@ impl Unit for Plain {
             registers,
             words,
             tcr1: self.tcr1,
+            tcr2: self.tcr2,
             pins: self.pins,
             channels,
         }

@@ -1,10 +1,12 @@
 //! Term 3 watched while calls run on a unit. It sees the unit through its
 //! calls alone, after each call and each tick, and knows no other rule than
-//! the words of term 3 in document 01.
+//! the words of term 3 in document 01, with the longer wait of request #106:
+//! which timer a group has, the initialise of its primary tells.
 
 use crate::calls::{perform, Answer, Call, Lent};
 use crate::plain::{
-    CISR, CPR0, HSRR0, MOD_AND_RATE, PARAMETERS, POSITION, STEP_CNTL0, STEP_CNTL1, TARGET,
+    CHANNEL_CONTROL, CISR, CPR0, HSRR0, MOD_AND_RATE, PARAMETERS, POSITION, STEP_CNTL0, STEP_CNTL1,
+    TARGET,
 };
 use crate::unit::Unit;
 use std::fmt;
@@ -23,18 +25,20 @@ pub struct Breach {
 pub struct Judged {
     pub counts: u64,
     /// Of these: ended by the arrival; within the time, the priority being on
-    /// all along; with a turn.
+    /// all along; within that of TCR2; with a turn.
     pub arrivals: u64,
     pub in_time: u64,
+    pub in_slow_time: u64,
     pub turns: u64,
 }
 
 impl Judged {
-    pub fn named(&self) -> [(&'static str, u64); 4] {
+    pub fn named(&self) -> [(&'static str, u64); 5] {
         [
             ("counts judged by term 3", self.counts),
             ("of these up to the arrival", self.arrivals),
             ("of these with a time limit", self.in_time),
+            ("of these by TCR2", self.in_slow_time),
             ("counts with a turn", self.turns),
         ]
     }
@@ -55,6 +59,7 @@ pub fn judge(unit: &mut dyn Unit, calls: &[Call], judged: &mut Judged) -> Result
     let mut watch = Watch {
         unit,
         runs: [None; 16],
+        slow: [false; 16],
         status: 0,
         lent: Lent::default(),
         judged,
@@ -84,6 +89,8 @@ struct Run {
     latest: Option<Step>,
     /// The priority was never 00 since the request.
     enabled: bool,
+    /// By TCR2.
+    slow: bool,
     count: Count,
 }
 
@@ -148,6 +155,8 @@ impl Run {
 struct Watch<'a> {
     unit: &'a mut dyn Unit,
     runs: [Option<Run>; 16],
+    /// The latest initialise that was taken is for TCR2.
+    slow: [bool; 16],
     /// CISR as last seen.
     status: u16,
     lent: Lent,
@@ -205,7 +214,15 @@ impl Watch<'_> {
     fn taken(&mut self, address: u16, value: u16) {
         for c in 0..16 {
             let asked = address == HSRR0 + 2 * (1 - c as u16 / 8);
-            if asked && (value >> (2 * (c % 8))) & 3 == 3 && self.runs[c].is_none() {
+            let request = if asked {
+                (value >> (2 * (c % 8))) & 3
+            } else {
+                0
+            };
+            if request == 2 {
+                // This word is locked until the service.
+                self.slow[c] = self.word(c, CHANNEL_CONTROL) & 0x1E0 == 0xE0;
+            } else if request == 3 && self.runs[c].is_none() {
                 self.begin(c, None, true);
             } else if address == word_address(c, TARGET) {
                 if let Some(run) = self.runs[c] {
@@ -231,15 +248,18 @@ impl Watch<'_> {
         let steps = ahead as u64 + stop.abs_diff(i64::from(target));
         let per_rate = u64::from(self.word(c + 1, STEP_CNTL0));
         let longest = u64::from(self.word(c + 1, STEP_CNTL1)).saturating_sub(2 * per_rate);
+        let slow = self.slow[c];
+        let ticks_a_count = if slow { 8 } else { 1 };
         self.runs[c] = Some(Run {
             position,
             rate,
             latest,
             enabled,
+            slow,
             count: Count {
                 target,
                 steps,
-                limit: 1 + longest * (steps + 1),
+                limit: 1 + ticks_a_count * longest * (steps + 1),
                 made: 0,
                 turns: 0,
                 ticks: 0,
@@ -305,6 +325,7 @@ impl Watch<'_> {
             self.end(&run.count);
             self.judged.arrivals += 1;
             self.judged.in_time += u64::from(run.enabled);
+            self.judged.in_slow_time += u64::from(run.enabled && run.slow);
             return Ok(false);
         }
         self.dark(c, status)?;

@@ -18,6 +18,10 @@ pub enum Phase {
 #[derive(Clone, Copy, Debug, Default, PartialEq, Eq)]
 pub struct ChannelView {
     pub initialised: bool,
+    /// Initialised for TCR2.
+    pub slow: bool,
+    /// The group goes by TCR2.
+    pub by_tcr2: bool,
     /// Prepared pin level.
     pub level: bool,
     /// Latest step of the group went left.
@@ -34,6 +38,7 @@ pub struct Snapshot {
     /// are 0.
     pub words: [u16; 128],
     pub tcr1: u16,
+    pub tcr2: u16,
     pub pins: u16,
     pub channels: [ChannelView; 16],
 }

@@ -1,8 +1,8 @@
 //! Counts what happens while call lists run on the plain unit.
 
 use crate::calls::{perform, Answer, Call, Lent};
-use crate::plain::{Plain, COUNT_AND_LAST, HSRR0, MOD_AND_RATE, POSITION, TARGET};
-use crate::unit::Phase;
+use crate::plain::{Plain, COUNT_AND_LAST, HSRR0, MOD_AND_RATE, POSITION, TARGET, TICKS_A_COUNT};
+use crate::unit::{Phase, Unit};
 use std::fmt;
 
 #[derive(Clone, Default, Debug)]
@@ -41,6 +41,45 @@ pub struct Counts {
     /// Ticks with more than one motor on its way.
     pub shared_ticks: u64,
     pub line_up: u64,
+    pub slow: Slow,
+}
+
+/// What happens by TCR2, or because of it.
+#[derive(Clone, Default, Debug)]
+pub struct Slow {
+    pub wraps: u64,
+    /// Wraps with a motor by TCR2 on its way.
+    pub wraps_on_the_way: u64,
+    /// Channels initialised for the other timer than they had.
+    pub changes: u64,
+    /// Requests refused for nothing but that the group has both kinds.
+    pub mixed: u64,
+    pub starts: u64,
+    pub steps: u64,
+    pub arrivals: u64,
+    pub late_services: u64,
+    pub due_at_set_up: u64,
+    pub past_and_not_due: u64,
+    /// Ticks with motors by either timer on their way.
+    pub both_timers: u64,
+}
+
+impl Slow {
+    fn named(&self) -> [(&'static str, u64); 11] {
+        [
+            ("TCR2 wraps", self.wraps),
+            ("TCR2 wraps with a motor by it", self.wraps_on_the_way),
+            ("channels given the other timer", self.changes),
+            ("groups of both kinds refused", self.mixed),
+            ("starts by TCR2", self.starts),
+            ("steps by TCR2", self.steps),
+            ("arrivals by TCR2", self.arrivals),
+            ("late services by TCR2", self.late_services),
+            ("matches due at set-up by TCR2", self.due_at_set_up),
+            ("matches past and not due by TCR2", self.past_and_not_due),
+            ("ticks with motors by both timers", self.both_timers),
+        ]
+    }
 }
 
 impl Counts {
@@ -77,6 +116,7 @@ impl Counts {
             ("ticks with several motors", self.shared_ticks),
             ("calls that left the line up", self.line_up),
         ];
+        let single = single.into_iter().chain(self.slow.named());
         all.extend(single.map(|(name, count)| (name.to_string(), count)));
         all
     }
@@ -104,6 +144,16 @@ fn has_several(call: Call) -> bool {
     }
 }
 
+/// The unit would say something else if all kinds were alike.
+fn kinds_matter(unit: &Plain, call: Call, answer: Answer) -> bool {
+    let mut state = unit.snapshot();
+    for channel in &mut state.channels {
+        channel.slow = false;
+    }
+    let mut alike = Plain::from_snapshot(&state);
+    perform(&mut alike, call, &mut Lent::default()) != answer
+}
+
 /// A plain unit with a memory of when each group's match happened.
 #[derive(Default)]
 pub struct Watch {
@@ -121,6 +171,14 @@ struct Look {
     position: u16,
     left: bool,
     initialised: bool,
+    slow: bool,
+    by_tcr2: bool,
+}
+
+impl Look {
+    fn is_moving(self) -> bool {
+        self.phase != Phase::Resting
+    }
 }
 
 impl Watch {
@@ -145,10 +203,13 @@ impl Watch {
 
     fn other(&mut self, call: Call, counts: &mut Counts) {
         let before = self.unit.clone();
-        match perform(&mut self.unit, call, &mut self.lent) {
+        let answer = perform(&mut self.unit, call, &mut self.lent);
+        match answer {
             Answer::Refused(number) => {
                 counts.refused[usize::from(number)] += 1;
                 counts.words_refused += u64::from(has_several(call));
+                let mixed = number == 6 && kinds_matter(&before, call, answer);
+                counts.slow.mixed += u64::from(mixed);
             }
             Answer::Word(_) => counts.words_read += 1,
             Answer::Done => {
@@ -168,6 +229,7 @@ impl Watch {
             if moving && !was_moving {
                 let last = usize::from(self.unit.word(c, COUNT_AND_LAST) & 15);
                 counts.starts[last - c + 1] += 1;
+                counts.slow.starts += u64::from(self.unit.view(c).by_tcr2);
             }
             if was_moving && address == 0xF00 + 16 * c as u16 + 2 * TARGET as u16 {
                 counts.retargets += 1;
@@ -186,26 +248,36 @@ impl Watch {
             position: self.unit.word(c, POSITION),
             left: view.left,
             initialised: view.initialised,
+            slow: view.slow,
+            by_tcr2: view.by_tcr2,
         }
     }
 
     fn tick(&mut self, counts: &mut Counts) {
         let mut before = [Look::default(); 16];
         let mut moving = 0;
+        let mut slow = 0;
         for (c, look) in before.iter_mut().enumerate() {
             *look = self.look(c);
-            moving += u64::from(look.phase != Phase::Resting);
+            moving += u64::from(look.is_moving());
+            slow += u64::from(look.is_moving() && look.by_tcr2);
         }
+        let tcr2 = self.unit.tcr2();
         let taken = self.unit.advance(1, &mut [0]);
         assert!(taken.is_ok(), "an advance by one is taken");
+        let wraps = tcr2 > self.unit.tcr2();
         self.ticks += 1;
         counts.ticks += 1;
         counts.wraps += u64::from(self.unit.tcr1() == 0);
         counts.shared_ticks += u64::from(moving > 1);
+        counts.slow.wraps += u64::from(wraps);
+        counts.slow.wraps_on_the_way += u64::from(wraps && slow > 0);
+        counts.slow.both_timers += u64::from(slow > 0 && moving > slow);
         for (c, look) in before.iter().enumerate() {
             let after = self.look(c);
             counts.initialised += u64::from(after.initialised && !look.initialised);
-            if look.phase != Phase::Resting {
+            counts.slow.changes += u64::from(after.slow != look.slow);
+            if look.is_moving() {
                 self.compare(c, *look, after, counts);
             }
         }
@@ -217,7 +289,9 @@ impl Watch {
         let first = before.phase == Phase::Requested;
         if let Phase::Matched(_) = before.phase {
             let late = self.ticks - self.matched[c] > 1 || !self.served_next[c];
-            counts.late_services += u64::from(late && (stepped || arrived));
+            let late = late && (stepped || arrived);
+            counts.late_services += u64::from(late);
+            counts.slow.late_services += u64::from(late && after.by_tcr2);
         } else if let Phase::Armed(_) = before.phase {
             self.matched[c] = self.ticks;
             self.served_next[c] = false;
@@ -225,6 +299,7 @@ impl Watch {
         if arrived {
             let n = (self.unit.word(c, COUNT_AND_LAST) >> 8) & 15;
             counts.arrivals += 1;
+            counts.slow.arrivals += u64::from(after.by_tcr2);
             counts.arrivals_low += u64::from(after.position == 0);
             counts.arrivals_high += u64::from(after.position == 0xFFFF - n);
         }
@@ -234,6 +309,7 @@ impl Watch {
         counts.fresh_patterns += u64::from(self.unit.word(c, MOD_AND_RATE) < 0x100);
         counts.steps_right += u64::from(!after.left);
         counts.steps_left += u64::from(after.left);
+        counts.slow.steps += u64::from(after.by_tcr2);
         counts.turns += u64::from(!first && after.left != before.left);
         self.new_match(c, first, after, counts);
     }
@@ -242,13 +318,17 @@ impl Watch {
         match after.phase {
             Phase::Matched(_) => {
                 counts.due_at_set_up += 1;
+                counts.slow.due_at_set_up += u64::from(after.by_tcr2);
                 self.matched[c] = self.ticks;
                 self.served_next[c] = true;
             }
             Phase::Armed(_) if !first => {
                 // No period is longer than $7FFF.
-                let waited = self.ticks - self.matched[c];
-                counts.past_and_not_due += u64::from(waited >= 0x8000);
+                let ticks_a_count = if after.by_tcr2 { TICKS_A_COUNT } else { 1 };
+                let count = |ticks: u64| ticks / u64::from(ticks_a_count);
+                let past = count(self.ticks) - count(self.matched[c]) >= 0x8000;
+                counts.past_and_not_due += u64::from(past);
+                counts.slow.past_and_not_due += u64::from(past && after.by_tcr2);
             }
             _ => {}
         }

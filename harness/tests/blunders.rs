@@ -1,5 +1,6 @@
-//! The harness finds the blunders of document 01, each made by the plain unit,
-//! and shortens the list of calls that shows it.
+//! The harness finds the blunders of document 01, and those of the timers of
+//! request #106, each made by the plain unit, and shortens the list of calls
+//! that shows it.
 
 use harness::calls::{call_list, Call};
 use harness::compare::{first_difference, Depth};
@@ -10,14 +11,20 @@ use harness::term3::{judge, Judged};
 
 /// Each with whether term 3 forbids it. A pattern that is a step out changes
 /// no position, rate or time: term 3 says nothing of it. Nor does it say when
-/// a motor takes up speed: the steps that it promises are the same.
-const BLUNDERS: [(Blunder, bool); 6] = [
+/// a motor takes up speed: the steps that it promises are the same. It forbids
+/// neither a motor that is too quick nor a group of both kinds.
+const BLUNDERS: [(Blunder, bool); 11] = [
     (Blunder::CountsVisits, false),
     (Blunder::ComparesPlainly, true),
     (Blunder::TurnsWhileFast, true),
     (Blunder::KeepsTarget, true),
     (Blunder::LightsAtRequest, true),
     (Blunder::AcceleratesAtN, false),
+    (Blunder::RisesInSeven, false),
+    (Blunder::KindAtRequest, true),
+    (Blunder::RefersToTcr1, true),
+    (Blunder::AsksFirstKind, false),
+    (Blunder::AsksLastKind, false),
 ];
 
 fn breaks_term_3(blunder: Blunder, calls: &[Call]) -> bool {
@@ -73,7 +80,10 @@ fn printed(unit: Plain, script: &str) -> String {
 fn comparison_finds_each_and_tells_how() {
     for (blunder, _) in BLUNDERS {
         let fault = first_fault(|calls| {
-            report::difference(&mut Plain::default(), &mut Plain::with(blunder), &calls)
+            let (mut right, mut wrong) = (Plain::default(), Plain::with(blunder));
+            // Where no more than a timer differs, a script has nothing to show.
+            first_difference(&mut right, &mut wrong, &calls, Depth::Shown)?;
+            report::difference(&mut right, &mut wrong, &calls)
         });
         let script = report::script(&fault.calls);
         let right = printed(Plain::default(), &script);

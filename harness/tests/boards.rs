@@ -49,8 +49,12 @@ impl Board {
             Wrong::StepsAtOnce => step_at_once(&before, &mut after),
             Wrong::PinsRest if is_moving(&before) => after.pins = before.pins,
             Wrong::LetsTimePass if is_moving(&before) => {
-                let tcr1 = after.tcr1;
-                after = Snapshot { tcr1, ..before };
+                let Snapshot { tcr1, tcr2, .. } = after;
+                after = Snapshot {
+                    tcr1,
+                    tcr2,
+                    ..before
+                };
             }
             Wrong::SamePins => after.pins = 0,
             _ => return,

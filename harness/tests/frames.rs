@@ -7,7 +7,7 @@ use harness::archive::Archive;
 use harness::calls::{motors, Call, Maker};
 use harness::plain::{Plain, CFSR0, COUNT_AND_LAST, CPR0, HSRR0, PARAMETERS, POSITION, TARGET};
 use harness::random::Random;
-use harness::unit::{ChannelView, Snapshot, Unit};
+use harness::unit::{ChannelView, Phase, Snapshot, Unit};
 
 /// The channels from the first to the last.
 #[derive(Clone, Copy, Debug)]
@@ -129,6 +129,10 @@ struct Tally {
     pins_differ: usize,
     /// The row and the rest of the second run step in one tick.
     together: usize,
+    row_steps_slow: usize,
+    steps_outside_slow: usize,
+    /// Motors of the row and of the rest are on their way by other timers.
+    other_timers: usize,
     mixed_words: usize,
     refused: usize,
     cut_groups: usize,
@@ -143,6 +147,9 @@ impl Tally {
             ("steps outside", self.steps_outside),
             ("pins that differ outside", self.pins_differ),
             ("steps in one tick", self.together),
+            ("steps of the row by TCR2", self.row_steps_slow),
+            ("steps outside by TCR2", self.steps_outside_slow),
+            ("ticks with other timers outside", self.other_timers),
             ("shared words for both", self.mixed_words),
             ("refused calls", self.refused),
             ("groups across an end of the row", self.cut_groups),
@@ -286,15 +293,10 @@ impl Frames<'_> {
             unit.advance(1, &mut [0]).map_err(|n| format!("N {n}"))?;
         }
         let (one, other) = (self.one.snapshot(), self.other.snapshot());
-        let stepped = |c: usize| before.words[8 * c + POSITION] != other.words[8 * c + POSITION];
-        let (mine, others): (Vec<usize>, Vec<usize>) = (0..16)
-            .filter(|&c| stepped(c))
-            .partition(|&c| self.row.has(c));
         self.tally.ticks += 1;
-        self.tally.row_steps += mine.len();
-        self.tally.steps_outside += others.len();
-        self.tally.together += usize::from(!mine.is_empty() && !others.is_empty());
         self.tally.pins_differ += usize::from(one.pins != other.pins);
+        self.count_steps(&before, &other);
+        self.count_timers(&before);
         let (one, other) = (self.row.view(&one), self.row.view(&other));
         match one.differs(&other)[..] {
             [] => Ok(()),
@@ -303,6 +305,31 @@ impl Frames<'_> {
                 self.row
             )),
         }
+    }
+}
+
+// What a tick of the second run does.
+impl Frames<'_> {
+    fn count_steps(&mut self, before: &Snapshot, after: &Snapshot) {
+        let stepped = |c: usize| before.words[8 * c + POSITION] != after.words[8 * c + POSITION];
+        let slow = |c: &&usize| before.channels[**c].by_tcr2;
+        let (mine, others): (Vec<usize>, Vec<usize>) = (0..16)
+            .filter(|&c| stepped(c))
+            .partition(|&c| self.row.has(c));
+        self.tally.row_steps += mine.len();
+        self.tally.steps_outside += others.len();
+        self.tally.together += usize::from(!mine.is_empty() && !others.is_empty());
+        self.tally.row_steps_slow += mine.iter().filter(slow).count();
+        self.tally.steps_outside_slow += others.iter().filter(slow).count();
+    }
+
+    fn count_timers(&mut self, before: &Snapshot) {
+        let moving = |c: &usize| before.channels[*c].phase != Phase::Resting;
+        let (mine, others): (Vec<usize>, Vec<usize>) =
+            (0..16).filter(moving).partition(|&c| self.row.has(c));
+        let by = |c: usize| before.channels[c].by_tcr2;
+        let other = mine.iter().any(|&c| others.iter().any(|&d| by(c) != by(d)));
+        self.tally.other_timers += usize::from(other);
     }
 }
 
@@ -339,7 +366,7 @@ fn compare(
 
 fn hunt<U: Unit>(new: fn() -> U) -> (Tally, Option<String>) {
     let mut tally = Tally::default();
-    let found = (1..=60).find_map(|seed| {
+    let found = (1..=150).find_map(|seed| {
         let (mut one, mut other) = (new(), new());
         compare(seed, 120, &mut one, &mut other, &mut tally).err()
     });

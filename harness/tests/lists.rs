@@ -124,5 +124,6 @@ fn check_pattern(unit: &Plain, primary: usize) {
         let turned = unit.word(g, PIN_CONTROL).rotate_right(places);
         assert_eq!(unit.word(g, CHANNEL_CONTROL), turned);
         assert!(unit.view(g).initialised);
+        assert_eq!(unit.view(g).slow, unit.view(primary).by_tcr2);
     }
 }

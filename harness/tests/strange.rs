@@ -74,6 +74,8 @@ fn check_promises(before: &[u16; WORDS], after: &[u16; WORDS], call: Call, seen:
         let (old, new) = (unpack(before), unpack(after));
         assert_eq!(*after, pack(&new));
         assert_eq!(new.tcr1, old.tcr1.wrapping_add(made as u16));
+        let rises = (u32::from(old.tcr1) % 8 + made) / 8;
+        assert_eq!(new.tcr2, old.tcr2.wrapping_add(rises as u16));
         assert_eq!(new.pins, *list.last().unwrap_or(&old.pins));
     } else {
         assert_eq!(after, before);

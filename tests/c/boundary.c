@@ -7,7 +7,7 @@
 enum { WORDS = TPU_SM_STATE_WORDS, GUARD = 4, LIST = 8, FILL = 0xA5A5 };
 
 /* Where the flags and times of the channels stand among the words: see crates/pack. */
-enum { FLAGS = 142, TIMES = 158 };
+enum { FLAGS = 143, TIMES = 159 };
 
 static int failures = 0;
 
@@ -127,15 +127,16 @@ static void addresses(void)
     CHECK(put(TPU_SM_PARAMETER(13, 7), 0x1234) == TPU_SM_TAKEN && get(TPU_SM_PARAMETER(13, 7)) == 0);
 }
 
-/* A motor on channels 4 and 5, initialised and at rest, that may be sent to 2 with two steps of 6 ticks. */
-static void motor(void)
+/* A motor on channels 4 and 5, initialised with these CHANNEL_CONTROL and at rest, that may be sent to 2 with two steps of
+   6 counts. */
+static void motor_by(uint16_t first, uint16_t second)
 {
     begin();
     CHECK(put(TPU_SM_CFSR(4), TPU_SM_FUNCTION(4, 13) | TPU_SM_FUNCTION(5, 13)) == TPU_SM_TAKEN);
     CHECK(put(TPU_SM_CPR(4), TPU_SM_PRIORITY(4, 1) | TPU_SM_PRIORITY(5, 3)) == TPU_SM_TAKEN);
     CHECK(put(TPU_SM_PIN_CONTROL(4), 0xCCCC) == TPU_SM_TAKEN);
-    CHECK(put(TPU_SM_CHANNEL_CONTROL(4), TPU_SM_FORCE(0xCCCC)) == TPU_SM_TAKEN);
-    CHECK(put(TPU_SM_CHANNEL_CONTROL(5), TPU_SM_FORCE(0)) == TPU_SM_TAKEN);
+    CHECK(put(TPU_SM_CHANNEL_CONTROL(4), first) == TPU_SM_TAKEN);
+    CHECK(put(TPU_SM_CHANNEL_CONTROL(5), second) == TPU_SM_TAKEN);
     CHECK(put(TPU_SM_HSRR(4), TPU_SM_REQUEST(4, TPU_SM_INITIALISE) | TPU_SM_REQUEST(5, TPU_SM_INITIALISE)) == TPU_SM_TAKEN);
     CHECK(tpu_sm_advance(state, WORDS, 1, pins, LIST) == TPU_SM_TAKEN && pins[0] == TPU_SM_BIT(4));
     CHECK(put(TPU_SM_DESIRED_POSITION(4), 2) == TPU_SM_TAKEN);
@@ -144,6 +145,12 @@ static void motor(void)
     CHECK(put(TPU_SM_STEP_CNTL0(4), 1) == TPU_SM_TAKEN);
     CHECK(put(TPU_SM_STEP_CNTL1(4), 8) == TPU_SM_TAKEN);
     CHECK(guards_stand());
+}
+
+/* That motor by TCR1, where a count is a tick. */
+static void motor(void)
+{
+    motor_by(TPU_SM_FORCE(0xCCCC), TPU_SM_FORCE(0));
 }
 
 static void refused(uint16_t address, uint16_t value, uint16_t answer)
@@ -196,21 +203,35 @@ static void advances(void)
     CHECK(guards_stand());
 }
 
-/* Two steps to the arrival, the interrupt line up with it, and down again. */
-static void move_and_interrupt(void)
+/* Two steps to the arrival in the tick after so many, the interrupt line up with it, and down again. */
+static void move_and_interrupt(uint32_t ticks)
 {
-    uint16_t long_list[32];
-    motor();
+    uint16_t long_list[100];
     put(TPU_SM_CISR, 0);
     put(TPU_SM_CIER, TPU_SM_BIT(4));
-    put(TPU_SM_HSRR(4), TPU_SM_REQUEST(4, TPU_SM_STEP));
-    CHECK(tpu_sm_advance(state, WORDS, 12, long_list, 32) == TPU_SM_TAKEN);
+    CHECK(put(TPU_SM_HSRR(4), TPU_SM_REQUEST(4, TPU_SM_STEP)) == TPU_SM_TAKEN);
+    CHECK(tpu_sm_advance(state, WORDS, ticks, long_list, 100) == TPU_SM_TAKEN);
     CHECK(tpu_sm_interrupt_line(state, WORDS) == 0);
-    CHECK(tpu_sm_advance(state, WORDS, 1, long_list, 32) == TPU_SM_TAKEN);
+    CHECK(tpu_sm_advance(state, WORDS, 1, long_list, 100) == TPU_SM_TAKEN);
     CHECK(tpu_sm_interrupt_line(state, WORDS) == 1);
     CHECK(get(TPU_SM_CURRENT_POSITION(4)) == 2 && get(TPU_SM_CISR) == TPU_SM_BIT(4));
     CHECK(put(TPU_SM_CISR, 0) == TPU_SM_TAKEN);
     CHECK(tpu_sm_interrupt_line(state, WORDS) == 0);
+}
+
+static void moves(void)
+{
+    motor();
+    move_and_interrupt(12);
+}
+
+/* By TCR2, which comes to 12 in tick 96 since reset; the request comes after tick 1. A group of both kinds is refused. */
+static void winders(void)
+{
+    motor_by(TPU_SM_SLOW(0xCCCC), TPU_SM_SLOW(0));
+    move_and_interrupt(94);
+    motor_by(TPU_SM_SLOW_HIGH, TPU_SM_FORCE_LOW);
+    refused(TPU_SM_HSRR(4), TPU_SM_REQUEST(4, TPU_SM_STEP), TPU_SM_GROUP_NOT_READY);
 }
 
 /* A copy of the words goes on as the words do. */
@@ -226,7 +247,8 @@ static void copies(void)
     CHECK(!memcmp(copy, state, sizeof copy) && !memcmp(list, pins, sizeof list));
 }
 
-/* Words that no call leaves: a refused call keeps them, a taken one drops unused flags, and times of phases without one. */
+/* Words that no call leaves: a refused call keeps them, a taken one drops unused flags, and times of phases without one.
+   Bits 5 and 6 of the flags are for TCR2. */
 static void odd_words(void)
 {
     begin();
@@ -234,7 +256,7 @@ static void odd_words(void)
     state[TIMES + 3] = 0x1234;
     refused(0xE0B, 0, TPU_SM_NO_SUCH_ADDRESS);
     CHECK(put(TPU_SM_CIER, 0) == TPU_SM_TAKEN);
-    CHECK(state[FLAGS + 3] == 0 && state[TIMES + 3] == 0);
+    CHECK(state[FLAGS + 3] == 0x60 && state[TIMES + 3] == 0);
     CHECK(guards_stand());
 }
 
@@ -246,7 +268,8 @@ int main(void)
     addresses();
     refusals();
     advances();
-    move_and_interrupt();
+    moves();
+    winders();
     copies();
     odd_words();
     return failures != 0;

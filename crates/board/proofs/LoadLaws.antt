@@ -151,6 +151,8 @@ module _ (b : List ℕ) (k : ℕ) where
         clock = x .clock;
         missing = x .missing;
         uninitialised = λ c h. uninitialised s c w h;
+        kinds = x .kinds;
+        timers = x .timers;
         levels = x .levels;
         ways = x .ways;
         phases = x .phases;

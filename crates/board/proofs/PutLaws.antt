@@ -58,15 +58,17 @@ stays-cleared s c d h z e = by (eqb d c) refl
 pub record Keeps (s t : State) : Type 0 where
   pub registers : (i : ℕ) → isSettingRegister i ≡ false → reg t i ≡ reg s i
   pub pins : t .pins ≡ s .pins
-  pub clock : t .tcr1 ≡ s .tcr1
+  pub clock : t .timers ≡ s .timers
   pub missing : (c i : ℕ) → i < 8 → exists c i ≡ false → word t c i ≡ word s c i
+  pub kinds : (c : ℕ) → (channel t c) .kind ≡ (channel s c) .kind
+  pub timers : (c : ℕ) → (channel t c) .timer ≡ (channel s c) .timer
   pub levels : (c : ℕ) → (channel t c) .level ≡ (channel s c) .level
   pub ways : (c : ℕ) → (channel t c) .way ≡ (channel s c) .way
   pub phases : (c : ℕ) → (channel t c) .phase ≡ (channel s c) .phase
 
 pub keeps-refl : (s : State) → Keeps s s
 keeps-refl s =
-    record { registers = λ i e. refl; pins = refl; clock = refl; missing = λ c i l e. refl; levels = λ c. refl; ways = λ c. refl; phases = λ c. refl }
+    record { registers = λ i e. refl; pins = refl; clock = refl; missing = λ c i l e. refl; kinds = λ c. refl; timers = λ c. refl; levels = λ c. refl; ways = λ c. refl; phases = λ c. refl }
 
 pub keeps-trans : (s t w : State) → Keeps s t → Keeps t w → Keeps s w
 keeps-trans s t w x y =
@@ -75,6 +77,8 @@ keeps-trans s t w x y =
       pins = y .pins ∙ x .pins;
       clock = y .clock ∙ x .clock;
       missing = λ c i l e. y .missing c i l e ∙ x .missing c i l e;
+      kinds = λ c. y .kinds c ∙ x .kinds c;
+      timers = λ c. y .timers c ∙ x .timers c;
       levels = λ c. y .levels c ∙ x .levels c;
       ways = λ c. y .ways c ∙ x .ways c;
       phases = λ c. y .phases c ∙ x .phases c;
@@ -88,6 +92,8 @@ put-keeps s (AtRegister i) v x =
       pins = refl;
       clock = refl;
       missing = λ c k l e. refl;
+      kinds = λ c. refl;
+      timers = λ c. refl;
       levels = λ c. refl;
       ways = λ c. refl;
       phases = λ c. refl;
@@ -99,6 +105,8 @@ put-keeps s (AtWord c i) v x =
       pins = y .pins;
       clock = y .clock;
       missing = λ d k l e. y .words d k (λ q. apart c i d k (x .1) l (x .2) e q);
+      kinds = y .kinds;
+      timers = y .timers;
       levels = y .levels;
       ways = λ d. stored-ways s c i v d (x .1);
       phases = y .stepping;

@@ -1,22 +1,39 @@
 // What is kept of a channel beside its registers and words, after what may happen to it.
 ghost use mathlib.Core.Path.{_≡_};
 ghost use Rattle.motor.specs.declared.Phase.the-variants.{Matched};
+ghost use Rattle.unit.specs.TheUnit.{kindIn};
 ghost use Rattle.channel.specs.Record.{inPhase, setUp, withLevelIn, standing};
 use crate::service::Plan;
 use motor::Outcome;
 use motor::Phase;
 use motor::Way;
 use unit::Channel;
+use words::Timer;
 use words::clock;
+use words::field;
 
-pub fn set_up(x: Channel) -> Channel
-    ensures { λ r. ⌜ r ≡ setUp x ⌝ }
+// The kind of a channel that is initialised with this CHANNEL_CONTROL: bits 8 to 5 are 0111, by TCR2, or else by TCR1.
+pub fn kind_in(control: u16) -> Timer
+    ensures { λ r. ⌜ r ≡ kindIn control ⌝ }
 {
+    if field::timing(control) == 7 {
+        Timer::Tcr2
+    } else {
+        Timer::Tcr1
+    }
+}
+
+pub fn set_up(x: Channel, kind: Timer) -> Channel
+    ensures { λ r. ⌜ r ≡ setUp x kind ⌝ }
+{
+    let timer = x.timer;
     let way = x.way;
     let phase = x.phase;
     Channel {
         initialised: true,
+        kind: kind,
         level: x.level,
+        timer: timer,
         way: way,
         phase: phase,
     }
@@ -25,11 +42,15 @@ pub fn set_up(x: Channel) -> Channel
 pub fn with_level(x: Channel, on: bool) -> Channel
     ensures { λ r. ⌜ r ≡ withLevelIn x on ⌝ }
 {
+    let kind = x.kind;
+    let timer = x.timer;
     let way = x.way;
     let phase = x.phase;
     Channel {
         initialised: x.initialised,
+        kind: kind,
         level: on,
+        timer: timer,
         way: way,
         phase: phase,
     }
@@ -38,15 +59,19 @@ pub fn with_level(x: Channel, on: bool) -> Channel
 pub fn in_phase(x: Channel, way: Way, phase: Phase) -> Channel
     ensures { λ r. ⌜ r ≡ inPhase x way phase ⌝ }
 {
+    let kind = x.kind;
+    let timer = x.timer;
     Channel {
         initialised: x.initialised,
+        kind: kind,
         level: x.level,
+        timer: timer,
         way: way,
         phase: phase,
     }
 }
 
-// TCR1 is captured; the direction stays.
+// The time is captured; the direction stays.
 pub fn happened(x: Channel, now: u16) -> Channel
     ensures { λ r. ⌜ r ≡ inPhase x (x .way) (Matched now) ⌝ }
 {

@@ -11,7 +11,7 @@ use motor::Outcome;
 use motor::Phase;
 use words::field;
 
-// What was decided, and when: now, and the time for which a step sets its match.
+// What was decided, and when, by the group's timer: now, and the time for which a step sets its match.
 pub struct Plan {
     pub outcome: Outcome,
     pub now: u16,
@@ -50,7 +50,7 @@ pub fn is_tested(on: bool, r: u16, p: Phase) -> bool
     }
 }
 
-// The captured time, or TCR1 for a request.
+// The captured time, or the time of the group's timer for a request.
 pub fn reference(p: Phase, now: u16) -> u16
     ensures { λ r. ⌜ r ≡ reference p now ⌝ }
 {

@@ -12,12 +12,14 @@ use Rattle.unit.specs.Quiet.{QuietTicks}
 use Rattle.unit.specs.Rows.{Rows}
 use Rattle.history.specs.Leaves.{WritesLeave}
 use Rattle.history.specs.Always.{Always}
+use Rattle.history.specs.Timers.{TimersCount}
 use Rattle.history.specs.Term3.{CallsAre, Term3}
 use Rattle.history.specs.SlowMoves as history
 use Rattle.isolation.specs.Isolated.{Isolated}
 use Rattle.trials.specs.Trials.{Trials}
 use Rattle.trials.specs.History.{Met}
 use Rattle.trials.specs.Frames.{Frames, Across}
+use Rattle.trials.specs.Winder.{Winds}
 use Rattle.text.specs.Claims.{DecimalShort}
 use Rattle.parse.specs.Claims as parse
 use Rattle.script.specs.Claims as script
@@ -115,6 +117,12 @@ pub record TwoFrames : Type 0 where
   pub frames : Frames
   pub across : Across
 
+-- request #106: what both timers show, and a winder that comes home. Kinds, groups and waits by either timer are said in `takes`,
+-- `writes`, `always` and `term-3`
+pub record TwoTimers : Type 0 where
+  pub count : TimersCount
+  pub winds : Winds
+
 pub record Delivered : Type 0 where
   pub term-1 : EveryCall
   pub term-2 : EveryTick
@@ -124,3 +132,4 @@ pub record Delivered : Type 0 where
   pub settings : Settings
   pub rate-count : RateCount
   pub two-frames : TwoFrames
+  pub two-timers : TwoTimers

@@ -1,7 +1,7 @@
 -- In every history each group under way is held and shown, and the pins show what they should.
 use Prim.Native.Nat.{ℕ, _+_, _-_, _*_, _/_, _%_, _<_}
 use native.Mathlib.Omega.{arith}
-use mathlib.Core.Bool.{Bool, true, false, not}
+use mathlib.Core.Bool.{Bool, true, false, not, _||_}
 use mathlib.Core.List.{List, [], _∷_}
 use mathlib.Core.Path.{_≡_, refl, ap, sym, subst, _∙_}
 use mathlib.Core.Logic.{_≢_, _⊎_, inl, inr, ⊎-elim}
@@ -9,30 +9,32 @@ use lib.Dec.{eqb}
 use borrow.Author.Tests.{le-leb, eq-eqb, ne-eqb, eqb-true, eqb-false}
 use Rattle.words.specs.Choice.{pick}
 use Rattle.words.specs.Field.{field, bitOf}
-use Rattle.words.proofs.ChoiceLaws.{pick-cases, not-both, fails, and-right}
+use Rattle.words.proofs.ChoiceLaws.{pick-cases, not-both, fails, and-left, and-right}
 use Rattle.unit.specs.declared.State.{State}
 use Rattle.unit.specs.declared.Channel.{Channel}
-use Rattle.unit.specs.TheUnit.{reg, cprOf, enabled, status, word, hsrrOf, pin, reaches, isBound, last, idle, resetState, request, channel, channelControl, pinControl, position, stepping}
-use Rattle.history.specs.OneStep.{isPast, Enabled, actsAt, pinAfterMatch, StepIs, StillIs}
+use Rattle.unit.specs.TheUnit.{reg, cprOf, enabled, status, word, hsrrOf, pin, reaches, isBound, last, idle, resetState, request, channel, channelControl, kindIn, pinControl, position, stepping}
+use Rattle.history.specs.OneStep.{isPast, clockOf, Enabled, actsAt, pinAfterMatch, StepIs, StillIs}
 use Rattle.unit.specs.OneTick.{tick}
-use Rattle.unit.specs.Gate.{mayInitialise}
+use Rattle.unit.specs.Gate.{isTimed, mayInitialise}
 use Rattle.unit.specs.Calls.{Call}
 use Rattle.history.specs.Moments.{Act, Ticks as ticks, Writes as writes, Nothing as nothing, does, through, priorityOf}
-use Rattle.history.specs.Always.{GroupShown, StateOf, ByInitialise, ByMatch, Pending, LeavesWords, InitialiseIs, Untouched, Always}
+use Rattle.history.specs.Always.{GroupShown, OneKind, StateOf, ByInitialise, ByMatch, Pending, LeavesWords, InitialiseIs, Untouched, Always}
 use Rattle.history.proofs.Alone.{Fades, fades-tick}
 use Rattle.history.proofs.Held.{Held}
 use Rattle.history.proofs.Parts.{Part, part}
-use Rattle.history.proofs.WholeSteps.{tick-is}
+use Rattle.history.proofs.WholeSteps.{on-enabled, tick-is}
 use Rattle.history.proofs.Pins.{initialisedPart, Initialises}
 use Rattle.history.proofs.Begin.{unreached, unbound-still}
 use Rattle.history.proofs.Asked.{asked}
 use Rattle.history.proofs.Initialise.{Settled, settled}
 use Rattle.history.proofs.Lit.{Lit, ReachedBy, reached-by, tick-outcome, initialised-pin, lit-tick}
 use Rattle.unit.proofs.Reset.{same-all}
+use Rattle.unit.proofs.Passing.{time-passes}
+use Rattle.unit.proofs.Questions.{either}
 use Rattle.history.proofs.Fine.{none-stepping, Fine, none-asked, fine-reset, fine-tick}
 use Rattle.history.proofs.Chain.{tick-held}
 use Rattle.history.proofs.Calls.{Words, words-acts, words-first}
-use Rattle.history.proofs.Shown.{Every, shown-tick}
+use Rattle.history.proofs.Shown.{Every, shown-tick, kind-tick, kinds-kept}
 use Rattle.history.proofs.Every.{Good, good-write}
 
 -- ---- a tick, and many acts
@@ -40,8 +42,12 @@ use Rattle.history.proofs.Every.{Good, good-write}
 every-tick : (s : State) → Fine s → Every s → Every (tick s)
 unfolding Every
 every-tick s f e p l g =
-    let h : Held p s × GroupShown p s = e p l ((fades-tick s (f .sized) (f .going)) .still p g) in
-    (tick-held p s (h .0) g, shown-tick p s f (h .0) (h .1))
+    let d : Fades s (tick s) = fades-tick s (f .sized) (f .going) in
+    let h : Held p s × GroupShown p s × OneKind p s = e p l (d .still p g) in (
+      tick-held p s (h .0) g,
+      shown-tick p s f (h .0) (h .1),
+      kinds-kept p s (tick s) (d .spans p) (λ j a b. kind-tick p j s f (h .0) a b) (time-passes .named s p) (h .2),
+    )
 
 good-through : (xs : List Act) (s : State) → Words xs → Good s → Good (through s xs)
 unfolding through does Words
@@ -87,21 +93,21 @@ module _ (j : ℕ) (s : State) (r : ReachedBy j s) (n : pin (tick s) j ≢ pin s
   unfolding reaches
   reached = rw (r .up, le-leb (r .primary) j (r .above), le-leb j (last s (r .primary)) (r .below))
 
-  acted : (b : Bool) → actsAt ((channel s (r .primary)) .phase) ((tick s) .tcr1) ≡ b → pin (tick s) j ≡ pick b ((channel s j) .level) (pin s j) → ByMatch j s
+  acted : (b : Bool) → actsAt ((channel s (r .primary)) .phase) (clockOf (r .primary) (tick s)) ≡ b → pin (tick s) j ≡ pick b ((channel s j) .level) (pin s j) → ByMatch j s
   acted true t q = record { primary = r .primary; reached = reached; level = inl (t, q) }
   acted false t q = absurd (n q)
 
   still : StillIs (r .primary) s (tick s) → ByMatch j s
   unfolding pinAfterMatch
-  still y = acted (actsAt ((channel s (r .primary)) .phase) ((tick s) .tcr1)) refl ((y .channels j (r .above) (r .below)) .pin)
+  still y = acted (actsAt ((channel s (r .primary)) .phase) (clockOf (r .primary) (tick s))) refl ((y .channels j (r .above) (r .below)) .pin)
 
   stepped : StepIs (r .primary) s (tick s) → ByMatch j s
   unfolding pinAfterMatch
-  stepped y = by (isPast ((tick s) .tcr1) (y .match .time)) refl ((y .channels j (r .above) (r .below)) .pin)
+  stepped y = by (isPast (clockOf (r .primary) (tick s)) (y .match .time)) refl ((y .channels j (r .above) (r .below)) .pin)
     where
-      by : (b : Bool) → isPast ((tick s) .tcr1) (y .match .time) ≡ b → pin (tick s) j ≡ pick b ((channel (tick s) j) .level) (pinAfterMatch (r .primary) j s (tick s)) → ByMatch j s
+      by : (b : Bool) → isPast (clockOf (r .primary) (tick s)) (y .match .time) ≡ b → pin (tick s) j ≡ pick b ((channel (tick s) j) .level) (pinAfterMatch (r .primary) j s (tick s)) → ByMatch j s
       by true t q = record { primary = r .primary; reached = reached; level = inr (y .match .happens t, q) }
-      by false t q = acted (actsAt ((channel s (r .primary)) .phase) ((tick s) .tcr1)) refl q
+      by false t q = acted (actsAt ((channel s (r .primary)) .phase) (clockOf (r .primary) (tick s))) refl q
 
 pins-only : (calls : List Call) (s : State) → StateOf calls s → (j : ℕ) → j < 16 → pin (tick s) j ≢ pin s j → (b : Bool) → isBound s j ≡ b → ByInitialise j s ⊎ ByMatch j s
 unfolding part Every
@@ -112,6 +118,28 @@ pins-only calls s x j l n true t =
 pins-only calls s x j l n false t =
     let y : Good s = state-good calls s x in
     ⊎-elim (λ q. absurd (n (ap (λ (z : Part). z .pin) q))) (λ q. inl (by-initialise j s l (y .2) q)) (tick-outcome s (y .0) (y .1) (y .2) j l t)
+
+-- ---- where a kind changes
+
+settles : (calls : List Call) (s : State) → StateOf calls s → (j : ℕ) → j < 16 → isBound s j ≡ false → Settled j s (tick s)
+settles calls s x j l u = let f : Fine s = state-good calls s x .0 in settled j s l (f .sized) (f .going) (unbound-still j s u) (unreached j s (f .sized) u)
+
+kinds-only : (calls : List Call) (s : State) → StateOf calls s → (j : ℕ) → j < 16 → (channel (tick s) j) .kind ≢ (channel s j) .kind
+    → (b : Bool) → isBound s j ≡ b → Pending j s × Enabled j s
+unfolding Every part Pending request hsrrOf
+kinds-only calls s x j l n true t =
+    let e : Every s = (state-good calls s x) .1 in
+    let r : ReachedBy j s = reached-by j s l e t in
+    absurd (n (kind-tick (r .primary) j s (state-good calls s x .0) ((e (r .primary) (r .small) (r .up)) .0) (r .above) (r .below)))
+kinds-only calls s x j l n false t = by (eqb (request s j) 2) refl (enabled s j) refl
+  where
+    kept : (request s j ≡ 2 → enabled s j ≡ false) → Pending j s × Enabled j s
+    kept o = absurd (n (ap (λ (y : Part). y .kind) (settles calls s x j l t .part-not o)))
+
+    by : (p : Bool) → eqb (request s j) 2 ≡ p → (b : Bool) → enabled s j ≡ b → Pending j s × Enabled j s
+    by true p true e = (eqb-true _ 2 p, on-enabled j s e)
+    by true p false e = kept (λ q. e)
+    by false p b e = kept (λ q. absurd (eqb-false _ 2 p q))
 
 -- ---- initialise
 
@@ -127,9 +155,6 @@ disabled-is j s n = by (eqb (field 2 (reg s (9 + (1 - j / 8))) (2 * (j % 8))) 0)
     by true t = refl
     by false t = absurd (n (eqb-false _ 0 t))
 
-settles : (calls : List Call) (s : State) → StateOf calls s → (j : ℕ) → j < 16 → isBound s j ≡ false → Settled j s (tick s)
-settles calls s x j l u = let f : Fine s = state-good calls s x .0 in settled j s l (f .sized) (f .going) (unbound-still j s u) (unreached j s (f .sized) u)
-
 -- of a channel that is not bound a tick leaves every word but CHANNEL_CONTROL, and sets nothing going
 leaves-words : (calls : List Call) (s : State) → StateOf calls s → (j : ℕ) → isBound s j ≡ false → LeavesWords j s (tick s)
 leaves-words calls s x j u =
@@ -139,10 +164,10 @@ leaves-words calls s x j u =
     record { words = λ i a b. d .places j i a b r; rests = fails (stepping (tick s) j) (λ e. not-both (d .still j e) r) }
 
 initialise-is : (j : ℕ) (s t : State) → Settled j s t → LeavesWords j s t → mayInitialise s j ≡ true → request s j ≡ 2 → enabled s j ≡ true → InitialiseIs j s t
-unfolding part initialisedPart channelControl pinControl mayInitialise status request hsrrOf bitOf
+unfolding part initialisedPart kindIn channelControl pinControl mayInitialise isTimed status request hsrrOf bitOf
 initialise-is j s t x o m p e =
     let q : part j j t ≡ initialisedPart (part j j s) = x .part-both p e in
-    let v : field 2 (word s j 0) 0 ≡ pick (eqb (field 1 (word s j 1) 15) 1) 1 2 = eqb-true _ _ (and-right (eqb (field 4 (word s j 0) 5) 4) _ m) in
+    let v : field 2 (word s j 0) 0 ≡ pick (eqb (field 1 (word s j 1) 15) 1) 1 2 = eqb-true _ _ (and-right (eqb (field 4 (word s j 0) 5) 4 || eqb (field 4 (word s j 0) 5) 7) _ m) in
     record {
       high = λ b. ap (λ (y : Part). y .pin) q ∙ eq-eqb (field 2 (word s j 0) 0) 1 b;
       low = λ b. ap (λ (y : Part). y .pin) q ∙ ne-eqb (field 2 (word s j 0) 0) 1 (λ d. omega arith);
@@ -150,6 +175,9 @@ initialise-is j s t x o m p e =
       control = ap (λ (y : Part). y .control) q;
       others = o;
       set-up = ap (λ (y : Part). y .initialised) q;
+      fast = λ b. ap (λ (y : Part). y .kind) q ∙ rw (ne-eqb (field 4 (word s j 0) 5) 7 (λ d. omega arith)) refl;
+      slow = λ b. ap (λ (y : Part). y .kind) q ∙ rw (eq-eqb (field 4 (word s j 0) 5) 7 b) refl;
+      timed = either (field 4 (word s j 0) 5) 4 7 (and-left (eqb (field 4 (word s j 0) 5) 4 || eqb (field 4 (word s j 0) 5) 7) _ m);
       status = eqb-true (field 1 (reg t 11) j) 1 (x .status-both p e);
       gone = x .request-both p e;
     }
@@ -165,12 +193,14 @@ unfolding Every channelControl Pending request hsrrOf
 always =
     record {
       shown = λ calls s x p l g. ((state-good calls s x) .1 p l g) .1;
+      one-kind = λ calls s x p l g. ((state-good calls s x) .1 p l g) .2;
       rests = λ calls s x j l u i. (state-good calls s x) .2 .rests j l u i;
       pins = λ calls s x j l n. pins-only calls s x j l n (isBound s j) refl;
       moves = λ calls s x p l n. moves-only calls s x p l n (stepping s p) refl;
       under-way = λ calls s x. (state-good calls s x) .0 .going;
       questions = λ calls s x c a v g. asked c a v s (state-good calls s x .0) g;
       initialises = λ calls s x j l p e. let y : (mayInitialise s j ≡ true) × (isBound s j ≡ false) = (state-good calls s x) .2 .asked j l p in initialise-is j s (tick s) (settles calls s x j l (y .1)) (leaves-words calls s x j (y .1)) (y .0) p (enabled-is j s e);
+      kinds = λ calls s x j l n. kinds-only calls s x j l n (isBound s j) refl;
       untouched = λ calls s x j l u n. untouched-is j s (tick s) (settles calls s x j l u) (leaves-words calls s x j u) (λ p. disabled-is j s (n p));
       waits = λ calls s x j l p n. let y : (mayInitialise s j ≡ true) × (isBound s j ≡ false) = (state-good calls s x) .2 .asked j l p in (settles calls s x j l (y .1)) .request-off (disabled-is j s n) ∙ p;
     }

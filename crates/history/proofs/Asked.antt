@@ -6,16 +6,16 @@ use mathlib.Core.Bool.{Bool, true, false, _&&_}
 use mathlib.Core.Path.{_≡_, refl, ap, sym, subst, _∙_}
 use mathlib.Core.Logic.{_≢_, ⊎-elim}
 use lib.Dec.{eqb, leb}
+use Rattle.words.specs.declared.Timer.{Timer}
 use Rattle.words.specs.Field.{field}
 use Rattle.words.proofs.ChoiceLaws.{pick-cases, not-both}
 use Rattle.words.proofs.FieldLaws.{field-lt}
-use Rattle.motor.specs.declared.Phase.the-variants.{Requested}
 use Rattle.motor.specs.Group.{bound}
 use Rattle.unit.specs.declared.State.{State}
 use Rattle.unit.specs.declared.Channel.{Channel}
 use Rattle.unit.specs.declared.Place.{Place}
 use Rattle.unit.specs.declared.Place.the-variants.{AtRegister, AtWord, Nowhere}
-use Rattle.unit.specs.TheUnit.{each, reg, hsrrOf, request, withRequest, withReg, withPhase, withChannel, channel, word, last, stepping, reaches, isBound}
+use Rattle.unit.specs.TheUnit.{each, reg, hsrrOf, request, withRequest, withReg, withBinding, withChannel, channel, word, last, stepping, reaches, isBound}
 use Rattle.unit.specs.Gate.{place, requested, requestedOne, Asked, askChannel, andThen, askChannels, askRegister, askPlace}
 use Rattle.unit.specs.Calls.{answeredBy, writeOf, isTaken}
 use Rattle.unit.specs.Takes.{Free, Stepper, Member, MayStep}
@@ -26,7 +26,7 @@ use Rattle.unit.proofs.Access.{request-other, channel-other}
 use Rattle.unit.proofs.Places.{gate-place}
 use Rattle.history.specs.Moments.{isStepOf, SetsGoing}
 use Rattle.history.specs.Leaves.{RegisterLeaves}
-use Rattle.history.proofs.Frame.{sized-phase}
+use Rattle.history.proofs.Frame.{sized-binding}
 use Rattle.history.proofs.Alone.{less-reach}
 use Rattle.history.proofs.Walk.{IfYes, yes-then, yes-map, taken-yes, step-of, Allowed, walk-channel, walk-register, channel-asks, channels-ask}
 use Rattle.history.proofs.Leaves.{requests-leave}
@@ -36,16 +36,16 @@ use Rattle.history.proofs.Lit.{is-unbound}
 
 -- ---- what the requests of lower channels leave
 
-request-phase : (s : State) (i j : ℕ) → request (withPhase s i ((channel s i) .way) Requested) j ≡ request s j
-unfolding withPhase withChannel request reg
-request-phase s i j = refl
+request-binding : (s : State) (i j : ℕ) → request (withBinding s i) j ≡ request s j
+unfolding withBinding withChannel request reg
+request-binding s i j = refl
 
 requested-request : (s : State) (i r j : ℕ) → Sized s → i < 16 → j < 16 → j ≢ i → request (requested s i r) j ≡ request s j
 unfolding requested
 requested-request s i r j z a b n =
     pick-cases (λ w. request w j ≡ request s j) (eqb r 2) (λ t. request-other s i 2 j a b n z)
     (λ t. pick-cases (λ w. request w j ≡ request s j) (eqb r 3)
-    (λ u. pick-cases (λ x. request (withRequest x i 3) j ≡ request s j) (stepping s i) (λ g. request-other s i 3 j a b n z) (λ g. request-other _ i 3 j a b n (sized-phase s i _ _ z) ∙ request-phase s i j))
+    (λ u. pick-cases (λ x. request (withRequest x i 3) j ≡ request s j) (stepping s i) (λ g. request-other s i 3 j a b n z) (λ g. request-other _ i 3 j a b n (sized-binding s i z) ∙ request-binding s i j))
     (λ u. refl))
 
 lower-requests : (n a v : ℕ) (s : State) (j : ℕ) → Fine s → a + n ≤ j → j < 16 → request (each n a (requestedOne v) s) j ≡ request s j
@@ -56,7 +56,7 @@ lower-requests (suc n) a v s j f l h =
 
 -- what is under way stays so
 requested-stepping : (s : State) (i r p : ℕ) → stepping s p ≡ true → stepping (requested s i r) p ≡ true
-unfolding requested withRequest withReg stepping channel withPhase
+unfolding requested withRequest withReg stepping channel withBinding
 requested-stepping s i r p g =
     pick-cases (λ w. stepping w p ≡ true) (eqb r 2) (λ t. g)
     (λ t. pick-cases (λ w. stepping w p ≡ true) (eqb r 3)
@@ -98,11 +98,11 @@ module _ (n i v : ℕ) (s : State) (f : Fine s) (l : n ≤ 8) (a : 7 ≤ i) (b :
   unfolding Stepper
   back-stepper j e = ap (λ x. field 4 x (4 * (j % 4))) (sym (leaves .registers (1 + (3 - j / 4)) (λ q. omega arith))) ∙ e
 
-  back-member : (m j : ℕ) → 8 * (8 - i) + n ≤ j → j < 16 → Member m j w → Member m j s
-  back-member m j k h x = moved-member w s (sym (leaves .words)) m j (back-free j k h (x .free)) (back-stepper j (x .stepper)) (sym (leaves .setup j) ∙ x .initialised) x
+  back-member : (m : ℕ) (o : Timer) (j : ℕ) → 8 * (8 - i) + n ≤ j → j < 16 → Member m o j w → Member m o j s
+  back-member m o j k h x = moved-member w s (sym (leaves .words)) m o j (back-free j k h (x .free)) (back-stepper j (x .stepper)) (sym (below-leave n (8 * (8 - i)) v s j k)) x
 
   back-step : (c : ℕ) → c ≡ 8 * (8 - i) + n → MayStep c w → MayStep c s
-  back-step c e m = moved-step w s (sym (leaves .words)) c (λ j x y. back-member _ j (omega arith) (omega (arith, field-lt 4 (word w c 5) 0)) (m .group j x y)) m
+  back-step c e m = moved-step w s (sym (leaves .words)) c (λ j x y. back-member _ _ j (omega arith) (omega (arith, field-lt 4 (word w c 5) 0)) (rw (sym (leaves .kinds c)) (m .group j x y))) m
 
 -- ---- in an HSRR word
 

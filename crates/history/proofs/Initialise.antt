@@ -14,7 +14,7 @@ use Rattle.motor.specs.declared.Phase.the-variants.{Resting, Requested, Armed, 
 use Rattle.motor.specs.declared.Outcome.{Outcome}
 use Rattle.motor.specs.declared.Outcome.the-variants.{Arrived, Step}
 use Rattle.unit.specs.declared.State.{State}
-use Rattle.unit.specs.TheUnit.{withTime, each, reg, request, withRequest, enabled, status, withStatus, withPin, withPins, channel, withChannel, withInitialised, withPhase, word, withWord, withWords, pin, stepping, reaches, channelControl, pinControl}
+use Rattle.unit.specs.TheUnit.{withTimers, each, reg, request, withRequest, enabled, status, withStatus, withPin, withPins, channel, withChannel, withSetUp, kindIn, withPhase, word, withWord, withWords, pin, stepping, reaches, channelControl, pinControl}
 use Rattle.unit.specs.Stepping.{outcome}
 use Rattle.unit.specs.OneTick.{matched, initialise, stepRequest, requestServed, matchServed, served, clocked, tick}
 use Rattle.unit.proofs.Reset.{Sized}
@@ -38,7 +38,7 @@ bits s j = record { request = request s j; enabled = enabled s j; status = statu
 -- they stand in the registers alone
 bits-regs : (s t : State) (j : ℕ) → s .regs ≡ t .regs → bits s j ≡ bits t j
 unfolding bits request enabled status reg
-bits-regs s t j e = ap (λ (r : List ℕ). bits record { words = []; regs = r; tcr1 = 0; pins = 0; channels = [] } j) e
+bits-regs s t j e = ap (λ (r : List ℕ). bits record { words = []; regs = r; timers = record { tcr1 = 0; tcr2 = 0 }; pins = 0; channels = [] } j) e
 
 module _ (i j : ℕ) (hi : i < 16) (hj : j < 16) (n : j ≢ i) where
   bits-status : (s : State) → Sized s → bits (withStatus s i) j ≡ bits s j
@@ -55,11 +55,11 @@ module _ (i j : ℕ) (hi : i < 16) (hj : j < 16) (n : j ≢ i) where
   bits-outcome s reference (Step w k) z = bits-regs _ s j ((left-step s i reference w k) .regs)
 
   bits-initialise : (s : State) → Sized s → bits (initialise i s) j ≡ bits s j
-  unfolding initialise withInitialised withChannel withWord withWords withPin withPins channelControl pinControl
+  unfolding initialise withSetUp withChannel withWord withWords withPin withPins channelControl pinControl
   bits-initialise s z =
       let u : State = withPin s i (eqb (field 2 (channelControl s i) 0) 1) in
       let v : State = withWord u i 0 (pinControl s i) in
-      let w : State = withInitialised v i true in
+      let w : State = withSetUp v i (kindIn (word s i 0)) in
       bits-status w (sized-channel v i _ (sized-word u i 0 (pinControl s i) (sized-pin s i (eqb (field 2 (channelControl s i) 0) 1) z))) ∙ bits-regs w s j refl
 
   bits-stepRequest : (p : Phase) (s : State) → Sized s → bits (stepRequest p i s) j ≡ bits s j
@@ -89,7 +89,7 @@ module _ (i j : ℕ) (hi : i < 16) (hj : j < 16) (n : j ≢ i) where
       pick-cases (λ x. bits x j ≡ bits s j) (enabled s i) (λ a. bits-matchServed _ _ (sized-requestServed i s z) ∙ bits-requestServed s z) (λ a. refl)
 
 status-initialised : (j : ℕ) (s : State) → Sized s → status (initialise j s) j ≡ true
-unfolding initialise withInitialised
+unfolding initialise withSetUp
 status-initialised j s z = status-same _ j (sized-channel _ j _ (sized-word _ j 0 _ (sized-pin s j _ z)))
 
 -- ---- one channel through a tick
@@ -174,7 +174,7 @@ module _ (j : ℕ) (s : State) (h : j < 16) (z : Sized s) (g : Going s) (rests :
       by i l k false q u fu o = let n : j ≢ i = eqb-false j i q in later-on i u l n fu (o .1 (omega arith))
 
   pub settled : Settled j s (tick s)
-  unfolding tick clocked withTime part word pin channel
+  unfolding tick clocked withTimers part word pin channel
   settled =
       let m : State = each 16 0 matched (clocked s) in
       services 16 0 (omega arith) m (fades-matches s z g) (omega arith)

@@ -9,10 +9,14 @@ use mathlib.Core.Logic.{⊎-elim}
 use lib.Dec.{eqb, leb}
 use lib.ListN.{getD, take, drop}
 use borrow.Author.Tests.{eqb-true, eqb-false, le-leb}
+use Rattle.words.specs.declared.Timer.{Timer}
+use Rattle.words.specs.declared.Timer.the-variants.{Tcr1, Tcr2}
 use Rattle.words.specs.Choice.{pick, ask}
+use Rattle.words.specs.Clock.{ticksACount}
 use Rattle.words.specs.Field.{bitOf}
 use Rattle.words.proofs.ChoiceLaws.{not-both, fails, tests, and-left, and-right}
 use Rattle.motor.specs.Group.{Group, bound, aimed}
+use Rattle.motor.specs.Stepping.{period}
 use Rattle.motor.specs.Group as group
 use Rattle.motor.specs.Count.{Tick, Target, Other, isTarget, Sight, Moment, Event, UnderWay, UpToArrival, Running, Enabled, NoTarget, Undisturbed, Dark, EndsInTick, Standing, SlowBefore, movesIn, latest, stopOf, stepsOf, steps, ticksOf, ticksIn, Linked, after, Counted, Arrives}
 use Rattle.motor.specs.Track.{distance}
@@ -22,13 +26,13 @@ use Rattle.motor.proofs.Counts.{dark}
 use Rattle.motor.proofs.Arrival.{arrives}
 use Rattle.motor.proofs.Term3.{every-count}
 use Rattle.unit.specs.declared.State.{State}
-use Rattle.unit.specs.TheUnit.{position, target, nextRate, resetState, cisr, reg, status, exists, cntl0, cntl1, last, stepping, reaches, isBound}
+use Rattle.unit.specs.TheUnit.{position, target, nextRate, resetState, cisr, reg, channel, status, exists, cntl0, cntl1, last, stepping, reaches, isBound}
 use Rattle.unit.specs.declared.Place.{Place}
 use Rattle.unit.specs.declared.Place.the-variants.{AtWord}
 use Rattle.unit.specs.Gate.{gate, place, isFree, askWord, askPlace, stored}
 use Rattle.unit.specs.Calls.{Call, answeredBy, writeOf, isTaken}
 use Rattle.history.specs.Moments.{Act, Writes, acts, does, through, Typed, see, isTargetOf, eventOf, moments, SetsGoing}
-use Rattle.history.specs.Term3.{firstPeriod, Freed, Run, atRequest, atStart, atCount, atEnd, momentsGone, momentsNow, Cut, Homed, Term3}
+use Rattle.history.specs.Term3.{inTicks, longestStep, Freed, Run, atRequest, atStart, atCount, atEnd, momentsGone, momentsNow, Cut, Homed, Term3}
 use Rattle.unit.proofs.Reset.{Sized}
 use Rattle.history.proofs.Look.{look}
 use Rattle.history.proofs.Own.{viewIn, view, groupIn}
@@ -120,9 +124,14 @@ renamed : (p q : ℕ) (v w : Sight) (g h n m : List Moment) → p ≡ q → v �
 renamed p q v w g h n m a b c d x =
     subst (λ y. Counted q w h y) d (subst (λ y. Counted q w y n) c (subst (λ y. Counted q y g n) b (subst (λ y. Counted y v g n) a x)))
 
-first-period : (c : ℕ) (s : State) → firstPeriod c s ≡ group.firstPeriod ((view s c) .group)
-unfolding firstPeriod group.firstPeriod view viewIn groupIn look cntl0 cntl1
-first-period c s = refl
+in-ticks : (k : Timer) (n : ℕ) → inTicks k n ≡ ticksACount k * n
+unfolding inTicks ticksACount
+in-ticks Tcr1 n = omega arith
+in-ticks Tcr2 n = refl
+
+longest-step : (c : ℕ) (s : State) → longestStep c s ≡ group.longestStep ((view s c) .group)
+unfolding longestStep group.longestStep group.firstPeriod view viewIn groupIn look cntl0 cntl1
+longest-step c s = in-ticks ((channel s c) .timer) (period (cntl0 s c) (cntl1 s c) 1)
 
 group-bound : (c : ℕ) (s : State) → Alone c s → isBound s c ≡ true → bound ((view s c) .group .phase) ≡ true
 unfolding view viewIn groupIn look stepping
@@ -130,7 +139,7 @@ group-bound c s a e = sym (bound-stepping c s a) ∙ e
 
 run-counted : (c : ℕ) (s : State) (gone now : List Act) → Begun c s → Running (moments c s gone) → isBound (through s gone) c ≡ true
     → Running (moments c (through s gone) now) → NoTarget (moments c (through s gone) now)
-    → Counted (firstPeriod c (through s gone)) (see c s) (moments c s gone) (moments c (through s gone) now)
+    → Counted (longestStep c (through s gone)) (see c s) (moments c s gone) (moments c (through s gone) now)
 run-counted c s gone now b run e run′ free =
     let t : State = through s gone in
     let x : Chained c s gone = chain c gone s (ahead c s (b .held)) run in
@@ -139,8 +148,8 @@ run-counted c s gone now b run e run′ free =
     let h : Group = final g (x .acts) in
     let same : moments c t now ≡ group-count.moments h (y .acts) = y .same ∙ ap (λ z. group-count.moments z (y .acts)) (x .end) in
     let up : bound (h .phase) ≡ true = ap (λ (z : Group). bound (z .phase)) (sym (x .end)) ∙ group-bound c t (x .ahead .alone) e in
-    renamed (group.firstPeriod h) (firstPeriod c t) (group-count.see g) (see c s) (group-count.moments g (x .acts)) (moments c s gone) (group-count.moments h (y .acts)) (moments c t now)
-    (ap group.firstPeriod (sym (x .end)) ∙ sym (first-period c t)) (sym (seen c s (ahead c s (b .held)))) (sym (x .same)) (sym same)
+    renamed (group.longestStep h) (longestStep c t) (group-count.see g) (see c s) (group-count.moments g (x .acts)) (moments c s gone) (group-count.moments h (y .acts)) (moments c t now)
+    (ap group.longestStep (sym (x .end)) ∙ sym (longest-step c t)) (sym (seen c s (ahead c s (b .held)))) (sym (x .same)) (sym same)
     (every-count .counted g (x .acts) (y .acts) (set-going c s b) (x .fair) (subst (λ z. group-count.Fair z (y .acts)) (x .end) (y .fair)) (subst Running (x .same) run) up (subst Running same run′) (subst NoTarget same free))
 
 run-dark : (c : ℕ) (s : State) (gone : List Act) → Begun c s → Running (moments c s gone) → Dark (moments c s gone)
@@ -225,7 +234,7 @@ count-ahead r k = (chain (r .c) (r .gone) (atStart r) (ahead (r .c) (atStart r) 
 pub now-by : (r : Run) → Cut r → UpToArrival (momentsNow r) → Running (momentsNow r)
 now-by r k u = up-to (r .c) (r .now) (atCount r) (count-ahead r k) (gone-by r k .1) u
 
-counts : (r : Run) → Cut r → Running (momentsNow r) → NoTarget (momentsNow r) → Counted (firstPeriod (r .c) (atCount r)) (see (r .c) (atStart r)) (momentsGone r) (momentsNow r)
+counts : (r : Run) → Cut r → Running (momentsNow r) → NoTarget (momentsNow r) → Counted (longestStep (r .c) (atCount r)) (see (r .c) (atStart r)) (momentsGone r) (momentsNow r)
 counts r k run free = run-counted (r .c) (atStart r) (r .gone) (r .now) (begun r k) (gone-by r k .0) (gone-by r k .1) run free
 
 wholes : (r : Run) → Cut r → Running (momentsNow r) → WholeSteps (r .c) (atCount r) (r .now)
@@ -279,7 +288,7 @@ module _ (calls : List Call) (before now rest : List Act) (c a v : ℕ) (l : Typ
   unfolding moments UnderWay
   request-cut = record { listed = l; whole = e; starts = g; under-way = tt }
 
-  request-counts : UpToArrival (moments c going now) → NoTarget (moments c going now) → Counted (firstPeriod c going) (see c going) [] (moments c going now)
+  request-counts : UpToArrival (moments c going now) → NoTarget (moments c going now) → Counted (longestStep c going) (see c going) [] (moments c going now)
   unfolding moments through
   request-counts u free = counts _ request-cut (now-by _ request-cut u) free
 
@@ -322,19 +331,19 @@ module _ (calls : List Call) (before gone now rest : List Act) (c a v b x : ℕ)
         taken-target c b x (through t gone) (running-held c (through t gone) (z .ahead) (y .1)) q
 
     target-counts : UpToArrival (moments c w now) → NoTarget (moments c w now)
-        → (target w c ≡ x) × Counted (firstPeriod c w) (see c t) (moments c t (gone ++ (Writes b x ∷ []))) (moments c w now)
+        → (target w c ≡ x) × Counted (longestStep c w) (see c t) (moments c t (gone ++ (Writes b x ∷ []))) (moments c w now)
     target-counts =
-        subst (λ y. UpToArrival (moments c y now) → NoTarget (moments c y now) → (target w c ≡ x) × Counted (firstPeriod c y) (see c t) (moments c t (gone ++ (Writes b x ∷ []))) (moments c y now)) count-from
+        subst (λ y. UpToArrival (moments c y now) → NoTarget (moments c y now) → (target w c ≡ x) × Counted (longestStep c y) (see c t) (moments c t (gone ++ (Writes b x ∷ []))) (moments c y now)) count-from
         (λ n free. (target-aims, counts run-to target-cut (now-by run-to target-cut n) free))
 
 arrivals : (r : Run) → Cut r → Enabled (momentsGone r) → Undisturbed (momentsNow r)
-    → 1 + firstPeriod (r .c) (atCount r) * (steps (see (r .c) (atStart r)) (momentsGone r) + 1) ≤ ticksIn (momentsNow r)
+    → 1 + longestStep (r .c) (atCount r) * (steps (see (r .c) (atStart r)) (momentsGone r) + 1) ≤ ticksIn (momentsNow r)
     → Arrives (see (r .c) (atStart r)) (momentsGone r) (momentsNow r)
 arrivals r k on u enough =
-    arrives (firstPeriod (r .c) (atCount r)) (see (r .c) (atStart r)) (momentsGone r) (momentsNow r)
+    arrives (longestStep (r .c) (atCount r)) (see (r .c) (atStart r)) (momentsGone r) (momentsNow r)
     (subst (λ v. Linked v (momentsNow r)) (sym (after-moments (r .c) (atStart r) (r .gone))) (linked (r .c) (atCount r) (r .now)))
     (λ n run free. let e : take n (momentsNow r) ≡ moments (r .c) (atCount r) (take n (r .now)) = take-moments n (r .c) (atCount r) (r .now) in
-    subst (λ ms. Counted (firstPeriod (r .c) (atCount r)) (see (r .c) (atStart r)) (momentsGone r) ms) (sym e)
+    subst (λ ms. Counted (longestStep (r .c) (atCount r)) (see (r .c) (atStart r)) (momentsGone r) ms) (sym e)
     (run-counted (r .c) (atStart r) (r .gone) (take n (r .now)) (begun r k) (gone-by r k .0) (gone-by r k .1) (subst Running e run) (subst NoTarget e free)))
     on u enough
 
@@ -377,7 +386,7 @@ unfolding moments Enabled NoTarget Undisturbed
 calm-first c s [] ys e n = tt
 calm-first c s (x ∷ xs) ys e n = λ b. (e .0, n .0, calm-first c (does x s) xs ys (e .1) (n .1))
 
-home : (c : ℕ) (t : State) (first later : List Act) → ticksIn (moments c t first) ≤ 1 + firstPeriod c t * (distance (position t c) (target t c) + 1)
+home : (c : ℕ) (t : State) (first later : List Act) → ticksIn (moments c t first) ≤ 1 + longestStep c t * (distance (position t c) (target t c) + 1)
     → Arrives (see c t) [] (moments c t first) → Homed c t (first ++ later)
 unfolding after see
 home c t first later n k =
@@ -404,12 +413,12 @@ homes : (calls : List Call) (before now rest : List Act) (c a v : ℕ)
     let t : State = does (Writes a v) s in
     Typed calls → acts calls ≡ before ++ (Writes a v ∷ (now ++ rest)) → SetsGoing c a v s
     → Enabled (moments c t now) → NoTarget (moments c t now)
-    → 1 + firstPeriod c t * (distance (position t c) (target t c) + 1) ≤ ticksIn (moments c t now)
+    → 1 + longestStep c t * (distance (position t c) (target t c) + 1) ≤ ticksIn (moments c t now)
     → Homed c t now
 unfolding movesIn latest stepsOf stopOf SlowBefore moments Enabled NoTarget Running after through see UpToArrival
 homes calls before now rest c a v l e g on free enough =
     let t : State = does (Writes a v) (through resetState before) in
-    let k : Split c t now (1 + firstPeriod c t * (distance (position t c) (target t c) + 1)) = split c now t _ enough in
+    let k : Split c t now (1 + longestStep c t * (distance (position t c) (target t c) + 1)) = split c now t _ enough in
     let r : Run = record { calls = calls; c = c; a = a; v = v; before = before; gone = []; now = k .first; rest = k .later ++ rest } in
     let w : acts calls ≡ before ++ (Writes a v ∷ (k .first ++ (k .later ++ rest))) =
     e ∙ ap (λ z. before ++ (Writes a v ∷ (z ++ rest))) (k .parts) ∙ ap (λ z. before ++ (Writes a v ∷ z)) (append-assoc (k .first) (k .later) rest) in

@@ -10,7 +10,10 @@ use lib.Dec.{eqb}
 use borrow.Author.Tests.{eq-eqb, ne-eqb}
 use Rattle.words.specs.Choice.{pick}
 use Rattle.words.proofs.ChoiceLaws.{not-both}
-use Rattle.words.specs.Clock.{since, due, later}
+use Rattle.words.specs.declared.Timer.{Timer}
+use Rattle.words.specs.declared.Timer.the-variants.{Tcr1, Tcr2}
+use Rattle.words.specs.declared.Timers.{Timers}
+use Rattle.words.specs.Clock.{since, due, later, timeBy}
 use Rattle.words.specs.Field.{field, withField, bitOf}
 use Rattle.words.proofs.FieldLaws.{field-set, field-above}
 use Rattle.words.proofs.RotationLaws.{right-bit, left-bit}
@@ -29,14 +32,15 @@ use Rattle.motor.specs.Count.{Running}
 use Rattle.motor.specs.SlowMoves.{Pace}
 use Rattle.motor.proofs.Decided.{request-decides, match-decides}
 use Rattle.motor.proofs.OneStep.{one-step}
-use Rattle.motor.proofs.OneTick.{happened-requested, period-bounds, tick-clock}
+use Rattle.motor.proofs.OneTick.{happened-requested, period-bounds}
 use Rattle.unit.specs.declared.State.{State}
-use Rattle.unit.specs.TheUnit.{cprOf, pin, channel, word, channelControl, pinControl, position, target, modCount, nextRate, top, last, cntl0, cntl1, enabled, motorOf}
+use Rattle.unit.specs.TheUnit.{cprOf, timeFor, pin, channel, word, channelControl, pinControl, position, target, modCount, nextRate, top, last, cntl0, cntl1, enabled, motorOf}
 use Rattle.unit.specs.Stepping.{nextCount, turnedOnce}
 use Rattle.unit.specs.OneTick.{tick}
 use Rattle.history.specs.Moments.{Act, Ticks, Writes, Nothing as nothing, does, priorityOf, moments}
-use Rattle.history.specs.OneStep.{isPast, actsAt, unserved, pinAfterMatch, Enabled, placesAhead, Sets, GoesOn, CountMoves, BitsTurn, topBit, ChannelSteps, MatchIs, StepIs, ChannelKeeps, StillIs, WholeSteps}
+use Rattle.history.specs.OneStep.{isPast, shownBy, clockOf, actsAt, unserved, pinAfterMatch, Enabled, placesAhead, Sets, GoesOn, CountMoves, BitsTurn, topBit, ChannelSteps, MatchIs, StepIs, ChannelKeeps, StillIs, WholeSteps}
 use Rattle.unit.proofs.Access.{mod-small}
+use Rattle.unit.proofs.Passing.{timeNext, tick-timers, time-passes}
 use Rattle.history.proofs.Look.{look}
 use Rattle.history.proofs.Own.{View, viewIn, groupIn, view}
 use Rattle.history.proofs.Ticks.{viewTicked, view-tick, view-matches}
@@ -80,7 +84,7 @@ module _ (c : ℕ) (s t : State) (f : Fine s) (w : Way) (k : ℕ) (acted already
   unfolding part outcomePart showPart modCount
   counted e = ap (λ (q : Part). field 4 (q .fourth) 8) e ∙ count-stands (word s c 4) (nextCount w (field 4 (word s c 4) 8)) k (count-small w (field 4 (word s c 4) 8))
 
-  channel-steps : (j x : ℕ) → modCount t c ≡ nextCount w (modCount s c) → isPast (t .tcr1) x ≡ already → actsAt ((channel s c) .phase) (t .tcr1) ≡ acted
+  channel-steps : (j x : ℕ) → modCount t c ≡ nextCount w (modCount s c) → isPast (clockOf c t) x ≡ already → actsAt ((channel s c) .phase) (clockOf c t) ≡ acted
       → part c j t ≡ outcomePart already (Step w k) (showPart acted (part c j s)) → ChannelSteps w x c j s t
   unfolding part outcomePart showPart channelControl pinControl modCount pinAfterMatch
   channel-steps j x m p q e =
@@ -96,13 +100,23 @@ module _ (c : ℕ) (s t : State) (f : Fine s) (w : Way) (k : ℕ) (acted already
 
 -- where a step comes from, and at which next rate it leaves the motor
 record From (c : ℕ) (s t : State) (reference : ℕ) (w : Way) (k : ℕ) : Type 0 where
-  from : (((channel s c) .phase ≡ Requested) × (reference ≡ t .tcr1) × Sets w c s) ⊎ ((unserved ((channel s c) .phase) (t .tcr1) ≡ Matched reference) × GoesOn w c s)
+  from : (((channel s c) .phase ≡ Requested) × (reference ≡ clockOf c t) × Sets w c s) ⊎ ((unserved ((channel s c) .phase) (clockOf c t) ≡ Matched reference) × GoesOn w c s)
   pace : Pace (top s c) (placesAhead w c s) (nextRate s c) k
 
 ahead-is : (w : Way) (c : ℕ) (s : State) → ahead w (motorOf s c) ≡ placesAhead w c s
 unfolding ahead placesAhead motorOf
 ahead-is Right c s = refl
 ahead-is Left c s = refl
+
+-- the time of a group, in this crate's own words and in crate unit's
+shown-is : (k : Timer) (t : Timers) → shownBy k t ≡ timeBy k t
+unfolding shownBy timeBy
+shown-is Tcr1 t = refl
+shown-is Tcr2 t = refl
+
+pub clock-is : (c : ℕ) (s : State) → clockOf c s ≡ timeFor s c
+unfolding clockOf
+clock-is c s = shown-is ((channel s c) .timer) (s .timers)
 
 -- the phase after the matches, in this crate's own words and in crate motor's
 unserved-is : (p : Phase) (now : ℕ) → happened now p ≡ unserved p now
@@ -112,6 +126,10 @@ unserved-is Requested now = refl
 unserved-is (Armed time) now = refl
 unserved-is (Matched captured) now = refl
 
+pub on-enabled : (c : ℕ) (s : State) → enabled s c ≡ true → Enabled c s
+unfolding enabled Enabled priorityOf cprOf
+on-enabled c s z e = not-both z (rw e)
+
 module _ (c : ℕ) (s : State) (h : Held c s) (f : Fine s) where
   abbrev t : State
   t = tick s
@@ -119,18 +137,17 @@ module _ (c : ℕ) (s : State) (h : Held c s) (f : Fine s) where
   abbrev g : Group
   g = (view s c) .group
 
-  time : t .tcr1 ≡ later (s .tcr1) 1
-  unfolding view viewIn groupIn look viewTicked
-  time = ap (λ (v : View). v .group .clock) (view-tick c s (h .sized) (f .going) (h .seen)) ∙ tick-clock g
+  time : clockOf c t ≡ timeNext s c
+  time = clock-is c t ∙ ap (λ k. timeBy k (t .timers)) (time-passes .named s c) ∙ ap (timeBy ((channel s c) .timer)) (tick-timers s)
 
   pub ticked : (view t c) .group ≡ group.tick g
   unfolding viewTicked
   ticked = ap (λ (v : View). v .group) (view-tick c s (h .sized) (f .going) (h .seen))
 
   abbrev acted : Bool
-  acted = actsAt ((channel s c) .phase) (later (s .tcr1) 1)
+  acted = actsAt ((channel s c) .phase) (timeNext s c)
 
-  acted-then : actsAt ((channel s c) .phase) (t .tcr1) ≡ acted
+  acted-then : actsAt ((channel s c) .phase) (clockOf c t) ≡ acted
   acted-then = ap (actsAt ((channel s c) .phase)) time
 
   abbrev Ticked : Type 0
@@ -141,7 +158,7 @@ module _ (c : ℕ) (s : State) (h : Held c s) (f : Fine s) where
   unfolding part showPart channelControl pinControl pinAfterMatch
   keeps j e = record { pin = ap (λ (q : Part). q .pin) e ∙ ap (λ b. pick b ((channel s j) .level) (pin s j)) (sym acted-then); control = ap (λ (q : Part). q .control) e; source = ap (λ (q : Part). q .source) e; level = ap (λ (q : Part). q .level) e }
 
-  still : (x : Group) → (view t c) .group ≡ x → x .motor ≡ g .motor → (x .phase ≡ happened (later (s .tcr1) 1) ((channel s c) .phase)) ⊎ ((x .phase ≡ Resting) × (position s c ≡ target s c) × Enabled c s)
+  still : (x : Group) → (view t c) .group ≡ x → x .motor ≡ g .motor → (x .phase ≡ happened (timeNext s c) ((channel s c) .phase)) ⊎ ((x .phase ≡ Resting) × (position s c ≡ target s c) × Enabled c s)
       → ((j : ℕ) → c ≤ j → j ≤ last s c → part c j t ≡ showPart acted (part c j s)) → Ticked
   unfolding view viewIn groupIn look position target part showPart
   still x e m p parts =
@@ -150,10 +167,11 @@ module _ (c : ℕ) (s : State) (h : Held c s) (f : Fine s) where
       record {
         place = ap (λ (y : Motor). y .position) q;
         faces = ap (λ (y : Motor). y .way) q;
+        timer = time-passes .named s c;
         rates = ap (λ (y : Part). y .fourth) (parts c (omega arith) (h .alone .spans));
         aim = ap (λ (y : Motor). y .target) q;
         span = fades-tick s (f .sized) (f .going) .spans c;
-        phase = ⊎-elim (λ y. inl (ap (λ (z : Group). z .phase) e ∙ y ∙ ap (λ z. happened z ((channel s c) .phase)) (sym time) ∙ unserved-is ((channel s c) .phase) (t .tcr1))) (λ y. inr (ap (λ (z : Group). z .phase) e ∙ y .0, y .1, y .2)) p;
+        phase = ⊎-elim (λ y. inl (ap (λ (z : Group). z .phase) e ∙ y ∙ ap (λ z. happened z ((channel s c) .phase)) (sym time) ∙ unserved-is ((channel s c) .phase) (clockOf c t))) (λ y. inr (ap (λ (z : Group). z .phase) e ∙ y .0, y .1, y .2)) p;
         channels = λ j a b. keeps j (parts j a b);
       }
 
@@ -173,7 +191,7 @@ module _ (c : ℕ) (s : State) (h : Held c s) (f : Fine s) where
   unfolding view viewIn groupIn look group.clocked group.outcome cntl0 cntl1 nextRate armed later period isPast due since
   match-is reference w k e =
       let x : ℕ = later reference (period (cntl0 s c) (cntl1 s c) (nextRate s c)) in
-      let p : (channel t c) .phase ≡ armed (t .tcr1) x = ap (λ (y : Group). y .phase) e ∙ ap (λ y. armed y x) (sym time) in
+      let p : (channel t c) .phase ≡ armed (clockOf c t) x = ap (λ (y : Group). y .phase) e ∙ ap (λ y. armed y x) (sym time) in
       record { time = x; some = some-period; sum = refl; set = λ q. p ∙ rw q refl; happens = λ q. p ∙ rw q refl }
 
   step-by : Enabled c s → (reference : ℕ) (o : Outcome) → ((w : Way) (k : ℕ) → o ≡ Step w k → From c s t reference w k) → (view t c) .group ≡ group.outcome (group.clocked g) reference o
@@ -191,6 +209,7 @@ module _ (c : ℕ) (s : State) (h : Held c s) (f : Fine s) where
         from = (fr w k refl) .from;
         place = subst (NextTo w (position s c)) (sym (ap (λ (x : Group). x .motor .position) e)) (d .next);
         faces = ap (λ (x : Group). x .motor .way) e;
+        timer = time-passes .named s c;
         rate = subst (Pace (top s c) (placesAhead w c s) (nextRate s c)) (sym (ap (λ (x : Group). x .motor .rate) e)) ((fr w k refl) .pace);
         count = subst (CountMoves w (modCount s c)) (sym m) (count-moves w (modCount s c) (mod-small s c));
         aim = ap (λ (x : Group). x .motor .target) e;
@@ -207,18 +226,18 @@ module _ (c : ℕ) (s : State) (h : Held c s) (f : Fine s) where
   unfolding view viewIn groupIn look motorOf nextRate SlowAtFirst
   slow r = subst (λ p. SlowAtFirst p (nextRate s c)) r (h .seen .sound .slow)
 
-  by-request : (w : Way) (k : ℕ) → (channel s c) .phase ≡ Requested → onRequest (motorOf s c) ≡ Step w k → From c s t (later (s .tcr1) 1) w k
+  by-request : (w : Way) (k : ℕ) → (channel s c) .phase ≡ Requested → onRequest (motorOf s c) ≡ Step w k → From c s t (timeNext s c) w k
   unfolding Sets motorOf
   by-request w k r e =
       let d = request-decides w (motorOf s c) k (valid .least) e in
       record { from = inl (r, sym time, subst (λ n. 1 ≤ n) (ahead-is w c s) (d .0)); pace = subst (λ n. Pace (top s c) n (nextRate s c) k) (ahead-is w c s) (d .1) }
 
-  by-match : (x : ℕ) (w : Way) (k : ℕ) → happened (later (s .tcr1) 1) ((channel s c) .phase) ≡ Matched x → onMatch (motorOf s c) ≡ Step w k → From c s t x w k
+  by-match : (x : ℕ) (w : Way) (k : ℕ) → happened (timeNext s c) ((channel s c) .phase) ≡ Matched x → onMatch (motorOf s c) ≡ Step w k → From c s t x w k
   unfolding GoesOn motorOf
   by-match x w k q e =
       let d = match-decides w (motorOf s c) k (valid .least) e in
       record {
-        from = inr (sym (unserved-is ((channel s c) .phase) (t .tcr1)) ∙ ap (λ y. happened y ((channel s c) .phase)) time ∙ q, subst Continued (ahead-is w c s) (d .0));
+        from = inr (sym (unserved-is ((channel s c) .phase) (clockOf c t)) ∙ ap (λ y. happened y ((channel s c) .phase)) time ∙ q, subst Continued (ahead-is w c s) (d .0));
         pace = subst (λ n. Pace (top s c) n (nextRate s c) k) (ahead-is w c s) (d .1);
       }
     where
@@ -226,36 +245,32 @@ module _ (c : ℕ) (s : State) (h : Held c s) (f : Fine s) where
       Continued n = (((channel s c) .way ≡ w) × ((1 ≤ n) ⊎ (2 ≤ nextRate s c))) ⊎ (((channel s c) .way ≢ w) × (nextRate s c ≡ 1) × (1 ≤ n))
 
   -- by what is pending after the matches
-  step-phase : Enabled c s → (p : Phase) → happened (later (s .tcr1) 1) ((channel s c) .phase) ≡ p → (view t c) .group ≡ group.serve p (group.clocked g)
+  step-phase : Enabled c s → (p : Phase) → happened (timeNext s c) ((channel s c) .phase) ≡ p → (view t c) .group ≡ group.serve p (group.clocked g)
       → ((j : ℕ) → c ≤ j → j ≤ last s c → part c j t ≡ phasePart p (group.clocked g) (showPart acted (part c j s))) → Ticked
   unfolding group.serve phasePart group.clocked view viewIn groupIn look motorOf position target nextRate top
   step-phase on Resting q e parts = idle e parts
   step-phase on Requested q e parts =
       let r : (channel s c) .phase ≡ Requested = happened-requested _ ((channel s c) .phase) q in
-      step-by on (later (s .tcr1) 1) (onRequest (motorOf s c)) (λ w k o. by-request w k r o) e parts (one-step .on-request (motorOf s c) valid (slow r))
+      step-by on (timeNext s c) (onRequest (motorOf s c)) (λ w k o. by-request w k r o) e parts (one-step .on-request (motorOf s c) valid (slow r))
   step-phase on (Armed x) q e parts = idle e parts
   step-phase on (Matched x) q e parts =
       step-by on x (onMatch (motorOf s c)) (λ w k o. by-match x w k q o) e parts (one-step .on-match (motorOf s c) valid)
 
   -- the part of each channel, by the view after the matches
   pub parts-turned : (j : ℕ) → c ≤ j → j ≤ last s c
-      → part c j t ≡ pick (enabled s c) (phasePart (happened (later (s .tcr1) 1) ((channel s c) .phase)) (group.clocked g) (showPart acted (part c j s))) (showPart acted (part c j s))
+      → part c j t ≡ pick (enabled s c) (phasePart (happened (timeNext s c) ((channel s c) .phase)) (group.clocked g) (showPart acted (part c j s))) (showPart acted (part c j s))
   unfolding view viewIn groupIn look motorOf position target nextRate top group.clocked
   parts-turned j a b =
       part-tick c j s h a b
       ∙ ap (λ (v : View). pick (v .group .enabled) (phasePart (v .group .phase) (v .group) (showPart acted (part c j s))) (showPart acted (part c j s))) (view-matches c s (h .sized) (f .going) (h .seen))
 
-  on-enabled : enabled s c ≡ true → Enabled c s
-  unfolding enabled Enabled priorityOf cprOf
-  on-enabled z e = not-both z (rw e)
-
   pub tick-is : Ticked
   unfolding group.tick group.clocked view viewIn groupIn look
   tick-is = by (enabled s c) refl ticked parts-turned
     where
-      by : (b : Bool) → enabled s c ≡ b → (view t c) .group ≡ pick b (group.serve (happened (later (s .tcr1) 1) ((channel s c) .phase)) (group.clocked g)) (group.clocked g)
-          → ((j : ℕ) → c ≤ j → j ≤ last s c → part c j t ≡ pick b (phasePart (happened (later (s .tcr1) 1) ((channel s c) .phase)) (group.clocked g) (showPart acted (part c j s))) (showPart acted (part c j s))) → Ticked
-      by true z e k = step-phase (on-enabled z) (happened (later (s .tcr1) 1) ((channel s c) .phase)) refl e k
+      by : (b : Bool) → enabled s c ≡ b → (view t c) .group ≡ pick b (group.serve (happened (timeNext s c) ((channel s c) .phase)) (group.clocked g)) (group.clocked g)
+          → ((j : ℕ) → c ≤ j → j ≤ last s c → part c j t ≡ pick b (phasePart (happened (timeNext s c) ((channel s c) .phase)) (group.clocked g) (showPart acted (part c j s))) (showPart acted (part c j s))) → Ticked
+      by true z e k = step-phase (on-enabled c s z) (happened (timeNext s c) ((channel s c) .phase)) refl e k
       by false z e k = idle e k
 
 pub whole-steps : (c : ℕ) (xs : List Act) (s : State) → Ahead c s → Fine s → Words xs → Running (moments c s xs) → WholeSteps c s xs

@@ -4,12 +4,13 @@ use mathlib.Core.Bool.{true, false}
 use mathlib.Core.List.{List, _++_}
 use mathlib.Core.Logic.{_≢_, _⊎_}
 use mathlib.Core.Path.{_≡_}
+use Rattle.words.specs.declared.Timer.the-variants.{Tcr1, Tcr2}
 use Rattle.words.specs.Field.{field, bitOf}
 use Rattle.words.specs.Rotation.{rotatedRight}
 use Rattle.motor.specs.declared.Phase.the-variants.{Matched}
 use Rattle.unit.specs.declared.State.{State}
 use Rattle.unit.specs.TheUnit.{resetState, reg, pin, request, reaches, isBound, function, channel, word, channelControl, pinControl, position, modCount, last, stepping}
-use Rattle.history.specs.OneStep.{Enabled, actsAt}
+use Rattle.history.specs.OneStep.{Enabled, clockOf, actsAt}
 use Rattle.unit.specs.OneTick.{tick}
 use Rattle.unit.specs.Gate.{otherwiseZero, spanGood}
 use Rattle.unit.specs.Calls.{Call}
@@ -27,6 +28,10 @@ pub record GroupShown (p : ℕ) (s : State) : Type 0 where
   pub span : spanGood s p ≡ true
   pub rates : otherwiseZero (word s p 4) ≡ true
   pub channels : (j : ℕ) → p ≤ j → j ≤ last s p → ChannelShown (modCount s p) j s
+
+-- each channel of the group of p is of the kind that the record of the group names. Paper 02, #106
+abbrev pub OneKind : ℕ → State → Type 0
+OneKind p s = (j : ℕ) → p ≤ j → j ≤ last s p → (channel s j) .kind ≡ (channel s p) .timer
 
 -- `Listed` says which lists of calls are meant. The calls are such a list, and s is a state of their history: right after a call, or
 -- after a tick inside an advance.
@@ -51,8 +56,8 @@ pub record ByInitialise (j : ℕ) (s : State) : Type 0 where
 pub record ByMatch (j : ℕ) (s : State) : Type 0 where
   pub primary : ℕ
   pub reached : reaches s j primary ≡ true
-  pub level : ((actsAt ((channel s primary) .phase) ((tick s) .tcr1) ≡ true) × (pin (tick s) j ≡ (channel s j) .level))
-      ⊎ (((channel (tick s) primary) .phase ≡ Matched ((tick s) .tcr1)) × (pin (tick s) j ≡ (channel (tick s) j) .level))
+  pub level : ((actsAt ((channel s primary) .phase) (clockOf primary (tick s)) ≡ true) × (pin (tick s) j ≡ (channel s j) .level))
+      ⊎ (((channel (tick s) primary) .phase ≡ Matched (clockOf primary (tick s))) × (pin (tick s) j ≡ (channel (tick s) j) .level))
 
 -- a tick from s to t leaves every word of channel j but CHANNEL_CONTROL, and its motor at rest
 pub record LeavesWords (j : ℕ) (s t : State) : Type 0 where
@@ -68,6 +73,10 @@ pub record InitialiseIs (j : ℕ) (s t : State) : Type 0 where
   pub control : channelControl t j ≡ pinControl s j
   pub others : LeavesWords j s t
   pub set-up : (channel t j) .initialised ≡ true
+  -- its kind from then on, by bits 8 to 5 of CHANNEL_CONTROL before the pattern comes there. Paper 02, #106
+  pub fast : field 4 (channelControl s j) 5 ≡ 4 → (channel t j) .kind ≡ Tcr1
+  pub slow : field 4 (channelControl s j) 5 ≡ 7 → (channel t j) .kind ≡ Tcr2
+  pub timed : (field 4 (channelControl s j) 5 ≡ 4) ⊎ (field 4 (channelControl s j) 5 ≡ 7)
   pub status : field 1 (reg t 11) j ≡ 1
   pub gone : pending j t ≡ 0
 
@@ -87,6 +96,8 @@ Pending j s = pending j s ≡ 2
 pub record AlwaysOf (Listed : List Call → Type 0) : Type 0 where
   -- a bound group is set up and shows its pattern
   pub shown : (calls : List Call) (s : State) → StateIn Listed calls s → (p : ℕ) → p < 16 → stepping s p ≡ true → GroupShown p s
+  -- and of one kind
+  pub one-kind : (calls : List Call) (s : State) → StateIn Listed calls s → (p : ℕ) → p < 16 → stepping s p ≡ true → OneKind p s
   -- an initialised channel that is not bound shows bit 15 of its CHANNEL_CONTROL
   pub rests : (calls : List Call) (s : State) → StateIn Listed calls s → (j : ℕ) → j < 16 → isBound s j ≡ false → (channel s j) .initialised ≡ true
       → pin s j ≡ bitOf (channelControl s j) 15
@@ -100,6 +111,9 @@ pub record AlwaysOf (Listed : List Call → Type 0) : Type 0 where
   pub questions : (calls : List Call) (s : State) → StateIn Listed calls s → (c a v : ℕ) → SetsGoing c a v s → MayStep c s
   -- an initialise is done in the next tick in which its channel has a priority
   pub initialises : (calls : List Call) (s : State) → StateIn Listed calls s → (j : ℕ) → j < 16 → Pending j s → Enabled j s → InitialiseIs j s (tick s)
+  -- and nothing else in a tick changes a kind; no write does (`WritesLeave`)
+  pub kinds : (calls : List Call) (s : State) → StateIn Listed calls s → (j : ℕ) → j < 16 → (channel (tick s) j) .kind ≢ (channel s j) .kind
+      → Pending j s × Enabled j s
   -- a channel that is not bound, with no initialise pending or the priority 00, is left; and what is pending at 00 stays
   pub untouched : (calls : List Call) (s : State) → StateIn Listed calls s → (j : ℕ) → j < 16 → isBound s j ≡ false → (Pending j s → Enabled j s → ⊥)
       → Untouched j s (tick s)

@@ -4,12 +4,14 @@ use mathlib.Core.Bool.{true, false}
 use mathlib.Core.List.{List, [], _∷_, _++_}
 use mathlib.Core.Path.{_≡_}
 use lib.ListN.{replicate}
+use Rattle.words.specs.declared.Timer.{Timer}
+use Rattle.words.specs.declared.Timer.the-variants.{Tcr1, Tcr2}
 use Rattle.motor.specs.Stepping.{period}
 use Rattle.motor.specs.Track.{distance}
 use Rattle.motor.specs.Count.{Target, Moment, UnderWay, UpToArrival, Enabled, NoTarget, Undisturbed, Dark, EndsInTick, ticksIn, steps, Counted, Arrives}
 use Rattle.unit.specs.declared.State.{State}
 use Rattle.unit.specs.declared.Answer.the-variants.{Refused}
-use Rattle.unit.specs.TheUnit.{resetState, position, target, nextRate, status, cntl0, cntl1, last, isBound}
+use Rattle.unit.specs.TheUnit.{resetState, channel, position, target, nextRate, status, cntl0, cntl1, last, isBound}
 use Rattle.unit.specs.Gate.{advanceGood}
 use Rattle.unit.specs.Calls.{writeOf, advanceOf, lentAfter, Call, Read, run, isTaken}
 use Rattle.unit.specs.Calls as calls
@@ -31,9 +33,14 @@ pub record CallsAre : Type 0 where
 
 -- ---- a run, cut anywhere
 
--- P(1)
-unfoldable pub firstPeriod : ℕ → State → ℕ
-firstPeriod c s = period (cntl0 s c) (cntl1 s c) 1
+-- so many counts of a timer in ticks: one each by TCR1, eight by TCR2. Paper 02, #106
+unfoldable pub inTicks : Timer → ℕ → ℕ
+inTicks Tcr1 counts = counts
+inTicks Tcr2 counts = 8 * counts
+
+-- P(1) in ticks, by the timer that the record of the group of c names: no step of it takes longer
+unfoldable pub longestStep : ℕ → State → ℕ
+longestStep c s = inTicks ((channel s c) .timer) (period (cntl0 s c) (cntl1 s c) 1)
 
 -- what the arrival gives back: no channel of the group is bound, and CURRENT_POSITION can be written
 pub record Freed (c : ℕ) (s : State) : Type 0 where
@@ -46,7 +53,7 @@ pub record Homed (c : ℕ) (t : State) (now : List Act) : Type 0 where
   pub first : List Act
   pub later : List Act
   pub parts : now ≡ first ++ later
-  pub within : ticksIn (moments c t first) ≤ 1 + firstPeriod c t * (distance (position t c) (target t c) + 1)
+  pub within : ticksIn (moments c t first) ≤ 1 + longestStep c t * (distance (position t c) (target t c) + 1)
   pub by-tick : EndsInTick (moments c t first)
   pub unbound : isBound (through t first) c ≡ false
   pub there : position (through t first) c ≡ target t c
@@ -103,14 +110,14 @@ pub record Term3Of (Listed : List Call → Type 0) : Type 0 where
   pub goes-on : (r : Run) → CutOf Listed r → isBound (atCount r) (r .c) ≡ true
   -- up to the arrival or the next target taken
   pub counted : (r : Run) → CutOf Listed r → UpToArrival (momentsNow r) → NoTarget (momentsNow r)
-      → Counted (firstPeriod (r .c) (atCount r)) (see (r .c) (atStart r)) (momentsGone r) (momentsNow r)
+      → Counted (longestStep (r .c) (atCount r)) (see (r .c) (atStart r)) (momentsGone r) (momentsNow r)
   -- document 01 counts from the request, and from a target taken; its target is then the word that was written
   pub from-request : (calls : List Call) (before now rest : List Act) (c a v : ℕ)
       → let s : State = through resetState before in
       let t : State = does (Writes a v) s in
       Listed calls → acts calls ≡ before ++ (Writes a v ∷ (now ++ rest)) → SetsGoing c a v s
       → UpToArrival (moments c t now) → NoTarget (moments c t now)
-      → Counted (firstPeriod c t) (see c t) [] (moments c t now)
+      → Counted (longestStep c t) (see c t) [] (moments c t now)
   pub from-target : (calls : List Call) (before gone now rest : List Act) (c a v b x : ℕ)
       → let s : State = through resetState before in
       let t : State = does (Writes a v) s in
@@ -119,7 +126,7 @@ pub record Term3Of (Listed : List Call → Type 0) : Type 0 where
       Listed calls → acts calls ≡ before ++ (Writes a v ∷ (gone ++ (Writes b x ∷ (now ++ rest)))) → SetsGoing c a v s
       → UnderWay (moments c t gone) → eventOf c (Writes b x) u ≡ Target
       → UpToArrival (moments c w now) → NoTarget (moments c w now)
-      → (target w c ≡ x) × Counted (firstPeriod c w) (see c t) (moments c t (gone ++ (Writes b x ∷ []))) (moments c w now)
+      → (target w c ≡ x) × Counted (longestStep c w) (see c t) (moments c t (gone ++ (Writes b x ∷ []))) (moments c w now)
   -- each tick is one step as under Stepping, or none
   pub whole : (r : Run) → CutOf Listed r → UpToArrival (momentsNow r) → WholeSteps (r .c) (atCount r) (r .now)
   -- at the arrival
@@ -128,7 +135,7 @@ pub record Term3Of (Listed : List Call → Type 0) : Type 0 where
   pub dark : (r : Run) → CutOf Listed r → Dark (moments (r .c) (atRequest r) (Writes (r .a) (r .v) ∷ r .gone))
   -- with the priority never 00 from the request on and no target taken, so many ticks bring it to its target
   pub arrives : (r : Run) → CutOf Listed r → Enabled (momentsGone r) → Undisturbed (momentsNow r)
-      → 1 + firstPeriod (r .c) (atCount r) * (steps (see (r .c) (atStart r)) (momentsGone r) + 1) ≤ ticksIn (momentsNow r)
+      → 1 + longestStep (r .c) (atCount r) * (steps (see (r .c) (atStart r)) (momentsGone r) + 1) ≤ ticksIn (momentsNow r)
       → Arrives (see (r .c) (atStart r)) (momentsGone r) (momentsNow r)
   -- in document 01's words, from the request: steps is then the way to the target
   pub comes-home : (calls : List Call) (before now rest : List Act) (c a v : ℕ)
@@ -136,7 +143,7 @@ pub record Term3Of (Listed : List Call → Type 0) : Type 0 where
       let t : State = does (Writes a v) s in
       Listed calls → acts calls ≡ before ++ (Writes a v ∷ (now ++ rest)) → SetsGoing c a v s
       → Enabled (moments c t now) → NoTarget (moments c t now)
-      → 1 + firstPeriod c t * (distance (position t c) (target t c) + 1) ≤ ticksIn (moments c t now)
+      → 1 + longestStep c t * (distance (position t c) (target t c) + 1) ≤ ticksIn (moments c t now)
       → Homed c t now
 
 -- term 3: of every list of calls whose written values are words

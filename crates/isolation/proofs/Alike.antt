@@ -9,15 +9,16 @@ use mathlib.Core.Path.{_≡_, refl, sym, subst, _∙_}
 use lib.Dec.{eqb}
 use lib.ListN.{getD, set, length}
 use borrow.Author.Tests.{le-leb, eqb-true, eqb-false}
+use Rattle.words.specs.declared.Timers.{Timers}
 use Rattle.words.specs.Choice.{pick}
 use Rattle.words.specs.Field.{withField, bitOf, bitValue}
 use Rattle.words.proofs.ChoiceLaws.{not-both}
 use Rattle.unit.specs.declared.Channel.{Channel}
 use Rattle.unit.specs.declared.State.{State}
-use Rattle.unit.specs.TheUnit.{idle, withWords, withReg, withTime, withPins, withChannel, each, cisr, reg, request, withRequest, function, withStatus, pin, withPin, channel, word, withWord}
+use Rattle.unit.specs.TheUnit.{idle, withWords, withReg, withTimers, withPins, withChannel, each, cisr, reg, request, withRequest, function, withStatus, pin, withPin, channel, word, withWord}
 use Rattle.unit.proofs.Reset.{Sized}
 use Rattle.unit.proofs.Tests.{in-range}
-use Rattle.unit.proofs.Access.{sized-reg, sized-time, sized-channel, sized-word, word-other, channel-other, bit-same, bit-other, hsrr-range, cfsr-range, cpr-range}
+use Rattle.unit.proofs.Access.{sized-reg, sized-timers, sized-channel, sized-word, word-other, channel-other, bit-same, bit-other, hsrr-range, cfsr-range, cpr-range}
 use Rattle.isolation.specs.Row.{Row, inRow, Same}
 use Rattle.isolation.proofs.Fields.{Kind, Functions, Requests, Priorities, width, regOf, placeOf, fieldOf, withFieldOf, kinds, field-beside, set-sized, field-hit, field-other, field-miss}
 
@@ -102,10 +103,10 @@ set-both (a ∷ l) (b ∷ m) (suc i) (suc j) x d n e = set-both l m i j x d (ome
 -- ---- one part of the state is set: the row's share of it agrees, and the other parts as before
 
 abbrev pub withRegs : State → List ℕ → State
-withRegs s x = record { words = s .words; regs = x; tcr1 = s .tcr1; pins = s .pins; channels = s .channels }
+withRegs s x = record { words = s .words; regs = x; timers = s .timers; pins = s .pins; channels = s .channels }
 
 abbrev withChannels : State → List Channel → State
-withChannels s x = record { words = s .words; regs = s .regs; tcr1 = s .tcr1; pins = s .pins; channels = x }
+withChannels s x = record { words = s .words; regs = s .regs; timers = s .timers; pins = s .pins; channels = x }
 
 module _ (r : Row) (s t : State) (x : Alike r s t) where
   by-words : (u v : List ℕ) → Sized (withWords s u) → Sized (withWords t v)
@@ -180,12 +181,12 @@ module _ (r : Row) (s t : State) (x : Alike r s t) where
         };
       }
 
-  pub alike-time : (u v : ℕ) → u ≡ v → Alike r (withTime s u) (withTime t v)
-  unfolding withTime word channel pin request function reg
+  pub alike-time : (u v : Timers) → u ≡ v → Alike r (withTimers s u) (withTimers t v)
+  unfolding withTimers word channel pin request function reg
   alike-time u v e =
       record {
-        left = sized-time s u (x .left);
-        right = sized-time t v (x .right);
+        left = sized-timers s u (x .left);
+        right = sized-timers t v (x .right);
         same = record {
           clock = e;
           words = x .same .words;

@@ -2,21 +2,20 @@
 use Prim.Native.Nat.{ℕ, zero, suc, _+_, _*_, _<_}
 use mathlib.Core.Bool.{true, false}
 use mathlib.Core.List.{List, [], _∷_, _++_}
-use mathlib.Core.Path.{_≡_, refl, ap, subst}
+use mathlib.Core.Path.{_≡_, refl, subst}
 use lib.Dec.{eqb}
 use Rattle.words.specs.Choice.{pick}
 use Rattle.unit.specs.declared.Channel.{Channel}
 use Rattle.unit.specs.declared.State.{State}
-use Rattle.motor.specs.declared.Phase.the-variants.{Requested}
 use Rattle.motor.specs.Group.{bound}
-use Rattle.unit.specs.TheUnit.{withPhase, withWord, channel, stepping}
+use Rattle.unit.specs.TheUnit.{withBinding, withWord, channel, stepping}
 use Rattle.unit.specs.OneTick.{tick}
 use Rattle.unit.specs.Gate.{requested, stored}
 use Rattle.history.proofs.Writes.{stored-at}
 use Rattle.isolation.specs.Row.{Row, inRow, Felt, Passes, Word, Function, Priority, Request, gather}
 use Rattle.isolation.proofs.Fields.{Functions, Priorities, withFieldOf}
 use Rattle.isolation.proofs.Alike.{Alike, row-small, alike-field, alike-word, alike-request, alike-pick}
-use Rattle.isolation.proofs.Services.{alike-initialised, alike-phase}
+use Rattle.isolation.proofs.Services.{alike-initialised, alike-binding}
 
 -- ---- what a row feels, done
 
@@ -71,9 +70,9 @@ module _ (r : Row) (real : r .final < 16) (s t : State) (x : Alike r s t) where
   alike-requested c v m =
       let l : c < 16 = row-small r real c m in
       let f : channel s c ≡ channel t c = x .same .records c m in
-      let u : State = withPhase s c ((channel s c) .way) Requested in
-      let w : State = withPhase t c ((channel t c) .way) Requested in
-      let started : Alike r u w = alike-phase r s t x c _ _ Requested Requested m (ap (λ (y : Channel). y .way) f) refl in
+      let u : State = withBinding s c in
+      let w : State = withBinding t c in
+      let started : Alike r u w = alike-binding r s t x c m in
       let going : Alike r (pick (stepping s c) s u) (pick (stepping t c) t w) =
       subst (λ (y : Channel). Alike r (pick (stepping s c) s u) (pick (bound (y .phase)) t w)) f
       (alike-pick r (stepping s c) s u t w (λ d. x) (λ d. started)) in

@@ -13,11 +13,10 @@ use Rattle.words.specs.Choice.{pick}
 use Rattle.words.specs.Field.{field}
 use Rattle.words.proofs.ChoiceLaws.{pick-cases, not-both, and-left}
 use Rattle.words.proofs.FieldLaws.{field-lt}
-use Rattle.motor.specs.declared.Phase.the-variants.{Requested}
 use Rattle.unit.specs.declared.State.{State}
 use Rattle.unit.specs.declared.Place.{Place}
 use Rattle.unit.specs.declared.Place.the-variants.{AtRegister, AtWord, Nowhere}
-use Rattle.unit.specs.TheUnit.{withReg, withPhase, withWord, withInitialised, each, cisr, cfsrOf, cprOf, reg, function, channel, exists}
+use Rattle.unit.specs.TheUnit.{withReg, withBinding, withWord, withInitialised, each, cisr, cfsrOf, cprOf, reg, function, exists}
 use Rattle.unit.specs.Pending.{priority}
 use Rattle.unit.specs.Gate.{place, requested, requestedOne, askRegister, askWord, askPlace, gate, stored, done}
 use Rattle.unit.specs.Calls.{isTaken, writeOf}
@@ -176,9 +175,9 @@ priorities-felt r real s z i v a b =
 -- ---- HSRR
 
 requested-outside : (r : Row) (s : State) (j x : ℕ) → r .final < 16 → j < 16 → inRow r j ≡ false → Sized s → Alike r (requested s j x) s
-unfolding withPhase
+unfolding withBinding
 requested-outside r s j x real l n z =
-    let a : Alike r (withPhase s j ((channel s j) .way) Requested) s = channel-outside r s j _ n z in
+    let a : Alike r (withBinding s j) s = channel-outside r s j _ n z in
     requested-cases (λ t. Alike r t s) s j x (alike-refl r s z) (λ e. request-outside r s j 2 real l n z)
     (λ e g. request-outside r s j 3 real l n z)
     (λ e g. alike-trans r _ _ s (request-outside r _ j 3 real l n (a .left)) a)

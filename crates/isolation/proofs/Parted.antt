@@ -4,17 +4,15 @@ use Prim.Native.Nat.{ℕ, zero, suc, _+_, _-_, _*_, _≤_, _<_}
 use native.Mathlib.Omega.{arith}
 use mathlib.Core.Bool.{Bool, true, false}
 use mathlib.Core.List.{List, _∷_}
-use mathlib.Core.Logic.{_⊎_, ⊎-elim}
+use mathlib.Core.Logic.{⊎-elim}
 use mathlib.Core.Path.{_≡_, refl, ap, sym, subst, _∙_}
 use Rattle.words.specs.Field.{field}
 use Rattle.words.proofs.ChoiceLaws.{not-both, fails}
-use Rattle.motor.specs.declared.Way.{Way}
-use Rattle.motor.specs.declared.Phase.{Phase}
 use Rattle.motor.specs.Group.{bound}
 use Rattle.unit.specs.declared.Channel.{Channel}
 use Rattle.unit.specs.declared.State.{State}
 use Rattle.unit.specs.declared.Place.{Place}
-use Rattle.unit.specs.TheUnit.{idle, withReg, withChannel, each, hsrrOf, withRequest, channel, withPhase, word, last, stepping}
+use Rattle.unit.specs.TheUnit.{idle, withReg, withChannel, each, hsrrOf, withRequest, channel, withBinding, word, last, stepping}
 use Rattle.unit.specs.OneTick.{matched, served, clocked, tick}
 use Rattle.unit.specs.Gate.{place, requested, askChannel, askPlace, stored}
 use Rattle.unit.specs.Calls.{isTaken, writeOf}
@@ -131,17 +129,16 @@ parted-request : (r : Row) (s : State) (j x : ℕ) → Parted r s → Parted r (
 unfolding withRequest
 parted-request r s j x p = parted-reg r s _ _ p
 
-parted-phase : (r : Row) (s : State) (j : ℕ) (w : Way) (q : Phase) → j < last s j → LiesApart r s j → Parted r s
-    → Parted r (withPhase s j w q)
-unfolding Parted LiesApart withPhase withChannel stepping channel last word
-parted-phase r s j w q a b p =
+parted-binding : (r : Row) (s : State) (j : ℕ) → j < last s j → LiesApart r s j → Parted r s → Parted r (withBinding s j)
+unfolding Parted LiesApart withBinding withChannel stepping channel last word
+parted-binding r s j a b p =
     set-all (λ c (y : Channel). bound (y .phase) ≡ true → (c < last s c) × LiesApart r s c) (s .channels) j _ idle (λ g. (a, b)) p
 
 parted-requested : (r : Row) (s : State) (j x : ℕ) → (x ≡ 3 → stepping s j ≡ false → (j < last s j) × LiesApart r s j) → Parted r s
     → Parted r (requested s j x)
 parted-requested r s j x h p =
     requested-cases (Parted r) s j x p (λ e. parted-request r s j 2 p) (λ e g. parted-request r s j 3 p)
-    (λ e g. let k : (j < last s j) × LiesApart r s j = h e g in parted-request r _ j 3 (parted-phase r s j _ _ (k .0) (k .1) p))
+    (λ e g. let k : (j < last s j) × LiesApart r s j = h e g in parted-request r _ j 3 (parted-binding r s j (k .0) (k .1) p))
 
 parted-stored : (r : Row) (s : State) (c i v : ℕ) → i < 8 → (i ≡ 5 → stepping s c ≡ false) → Parted r s → Parted r (stored s (8 * c + i) v)
 unfolding stepping last

@@ -9,7 +9,7 @@ use Rattle.words.proofs.ChoiceLaws.{not-both}
 use Rattle.motor.specs.Group.{bound}
 use Rattle.unit.specs.declared.Channel.{Channel}
 use Rattle.unit.specs.declared.State.{State}
-use Rattle.unit.specs.TheUnit.{idle, resetState, withReg, withChannel, withPhase, withRequest, reg, request, channel, stepping, position}
+use Rattle.unit.specs.TheUnit.{idle, resetState, withReg, withChannel, withBinding, withRequest, reg, request, channel, stepping, position}
 use Rattle.unit.specs.OneTick.{tick}
 use Rattle.unit.specs.Gate.{requested, stored}
 use Rattle.unit.specs.Calls.{Call}
@@ -42,7 +42,7 @@ Only r u = ((p : ℕ) → stepping u p ≡ true → inRow r p ≡ true) × Going
 
 in-row-requested : (r : Row) (u : State) (j x : ℕ) → inRow r j ≡ true → ((p : ℕ) → stepping u p ≡ true → inRow r p ≡ true) → (p : ℕ)
     → stepping (requested u j x) p ≡ true → inRow r p ≡ true
-unfolding withRequest withReg withPhase withChannel stepping channel
+unfolding withRequest withReg withBinding withChannel stepping channel
 in-row-requested r u j x m o =
     requested-cases (λ w. (p : ℕ) → stepping w p ≡ true → inRow r p ≡ true) u j x o (λ e. o) (λ e g. o)
     (λ e g. set-all (λ p (y : Channel). bound (y .phase) ≡ true → inRow r p ≡ true) (u .channels) j _ idle (λ q. m) o)

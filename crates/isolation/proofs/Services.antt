@@ -6,7 +6,8 @@ use mathlib.Core.Path.{_≡_, refl, ap, subst, _∙_}
 use lib.Dec.{eqb}
 use borrow.Author.Tests.{eqb-true}
 use Rattle.words.specs.Choice.{pick}
-use Rattle.words.specs.Clock.{due, later}
+use Rattle.words.specs.declared.Timer.{Timer}
+use Rattle.words.specs.Clock.{due, later, timeBy, onward}
 use Rattle.words.specs.Field.{field, withField, bitOf}
 use Rattle.words.proofs.ChoiceLaws.{pick-cases}
 use Rattle.motor.specs.declared.Way.{Way}
@@ -18,7 +19,7 @@ use Rattle.motor.specs.Stepping.{period, beside, onRequest, onMatch}
 use Rattle.motor.specs.Group.{bound}
 use Rattle.unit.specs.declared.Channel.{Channel}
 use Rattle.unit.specs.declared.State.{State}
-use Rattle.unit.specs.TheUnit.{each, withReg, request, withRequest, enabled, withPin, channel, withInitialised, withLevel, withPhase, word, withWord, channelControl, pinControl, position, target, modCount, nextRate, top, last, cntl0, cntl1, size, motorOf, stepping}
+use Rattle.unit.specs.TheUnit.{each, withReg, request, withRequest, enabled, withPin, channel, withInitialised, withSetUp, withLevel, withPhase, withBinding, timeFor, kindIn, word, withWord, channelControl, pinControl, position, target, modCount, nextRate, top, last, cntl0, cntl1, size, motorOf, stepping}
 use Rattle.unit.specs.Stepping.{pinOut, pinsOut, nextCount, turnedOnce, prepared, matchSet, stepped, outcome}
 use Rattle.unit.specs.OneTick.{matchOf, matched, initialise, stepRequest, requestServed, matchServed, served, clocked}
 use Rattle.unit.proofs.Reset.{Sized}
@@ -80,7 +81,7 @@ module _ (r : Row) (c : ℕ) where
   unfolding matchSet
   matchSet-outside s w time o z =
       let x : Alike r (pinsOut s c) s = pins-outside s o z in
-      pick-cases (λ t. Alike r t s) (due (s .tcr1) time) (λ a. alike-trans r _ _ s (phase-outside _ w _ (o .own) (x .left)) x)
+      pick-cases (λ t. Alike r t s) (due (timeFor s c) time) (λ a. alike-trans r _ _ s (phase-outside _ w _ (o .own) (x .left)) x)
       (λ a. phase-outside s w _ (o .own) z)
 
   steps-outside : (s : State) (w : Way) (m p q time : ℕ) → Outside r c s → Sized s → Alike r (steps s c w (size s c) m p q time) s
@@ -107,7 +108,7 @@ module _ (r : Row) (c : ℕ) where
   matchOf-outside Requested s o z = alike-refl r s z
   matchOf-outside (Armed time) s o z =
       let x : Alike r (pinsOut s c) s = pins-outside s (o refl) z in
-      pick-cases (λ t. Alike r t s) (due (s .tcr1) time) (λ a. alike-trans r _ _ s (phase-outside _ _ _ ((o refl) .own) (x .left)) x)
+      pick-cases (λ t. Alike r t s) (due (timeFor s c) time) (λ a. alike-trans r _ _ s (phase-outside _ _ _ ((o refl) .own) (x .left)) x)
       (λ a. alike-refl r s z)
   matchOf-outside (Matched time) s o z = alike-refl r s z
 
@@ -116,11 +117,11 @@ module _ (r : Row) (c : ℕ) where
   matched-outside s o z = matchOf-outside ((channel s c) .phase) s o z
 
   initialised-outside : (s : State) → inRow r c ≡ false → Sized s → Alike r (initialise c s) s
-  unfolding initialise withInitialised
+  unfolding initialise withSetUp
   initialised-outside s n z =
       let a : Alike r (withPin s c (eqb (field 2 (channelControl s c) 0) 1)) s = pin-outside r s c _ n z in
       let b : Alike r (withWord (withPin s c _) c 0 (pinControl s c)) (withPin s c _) = word-outside r _ c 0 _ n (omega arith) (a .left) in
-      let d : Alike r (withInitialised (withWord (withPin s c _) c 0 (pinControl s c)) c true)
+      let d : Alike r (withSetUp (withWord (withPin s c _) c 0 (pinControl s c)) c (kindIn (channelControl s c)))
       (withWord (withPin s c _) c 0 (pinControl s c)) = channel-outside r _ c _ n (b .left) in
       alike-trans r _ _ s (status-apart r _ c (d .left)) (alike-trans r _ _ s d (alike-trans r _ _ s b a))
 
@@ -164,25 +165,45 @@ module _ (r : Row) (s t : State) (x : Alike r s t) where
   pub alike-initialised : (j : ℕ) (on : Bool) → inRow r j ≡ true → Alike r (withInitialised s j on) (withInitialised t j on)
   unfolding withInitialised
   alike-initialised j on m =
-      alike-channel r s t j _ _ (ap (λ (y : Channel). record { initialised = on; level = y .level; way = y .way; phase = y .phase })
+      alike-channel r s t j _ _ (ap (λ (y : Channel). record { initialised = on; kind = y .kind; level = y .level; timer = y .timer; way = y .way; phase = y .phase })
+      (x .same .records j m)) x
+
+  alike-setUp : (j : ℕ) (k l : Timer) → inRow r j ≡ true → k ≡ l → Alike r (withSetUp s j k) (withSetUp t j l)
+  unfolding withSetUp
+  alike-setUp j k l m e =
+      let f : channel s j ≡ channel t j = x .same .records j m in
+      alike-channel r s t j _ _
+      (λ i. record { initialised = true; kind = e i; level = (f i) .level; timer = (f i) .timer; way = (f i) .way; phase = (f i) .phase }) x
+
+  pub alike-binding : (j : ℕ) → inRow r j ≡ true → Alike r (withBinding s j) (withBinding t j)
+  unfolding withBinding
+  alike-binding j m =
+      alike-channel r s t j _ _
+      (ap (λ (y : Channel). record { initialised = y .initialised; kind = y .kind; level = y .level; timer = y .kind; way = y .way; phase = Requested })
       (x .same .records j m)) x
 
   alike-level : (j : ℕ) (a b : Bool) → inRow r j ≡ true → a ≡ b → Alike r (withLevel s j a) (withLevel t j b)
   unfolding withLevel
   alike-level j a b m e =
       let f : channel s j ≡ channel t j = x .same .records j m in
-      alike-channel r s t j _ _ (λ i. record { initialised = (f i) .initialised; level = e i; way = (f i) .way; phase = (f i) .phase }) x
+      alike-channel r s t j _ _
+      (λ i. record { initialised = (f i) .initialised; kind = (f i) .kind; level = e i; timer = (f i) .timer; way = (f i) .way; phase = (f i) .phase }) x
 
-  pub alike-phase : (j : ℕ) (w v : Way) (p q : Phase) → inRow r j ≡ true → w ≡ v → p ≡ q → Alike r (withPhase s j w p) (withPhase t j v q)
+  alike-phase : (j : ℕ) (w v : Way) (p q : Phase) → inRow r j ≡ true → w ≡ v → p ≡ q → Alike r (withPhase s j w p) (withPhase t j v q)
   unfolding withPhase
   alike-phase j w v p q m e g =
       let f : channel s j ≡ channel t j = x .same .records j m in
-      alike-channel r s t j _ _ (λ i. record { initialised = (f i) .initialised; level = (f i) .level; way = e i; phase = g i }) x
+      alike-channel r s t j _ _
+      (λ i. record { initialised = (f i) .initialised; kind = (f i) .kind; level = (f i) .level; timer = (f i) .timer; way = e i; phase = g i }) x
 
 -- a channel of the row
 module _ (r : Row) (c : ℕ) (m : inRow r c ≡ true) where
   same-way : (s t : State) → Alike r s t → (channel s c) .way ≡ (channel t c) .way
   same-way s t x = ap (λ (y : Channel). y .way) (x .same .records c m)
+
+  -- the time of its group, by its timer
+  same-time : (s t : State) → Alike r s t → timeFor s c ≡ timeFor t c
+  same-time s t x = λ i. timeBy ((x .same .records c m i) .timer) (x .same .clock i)
 
   same-phase : (s t : State) → Alike r s t → (channel s c) .phase ≡ (channel t c) .phase
   same-phase s t x = ap (λ (y : Channel). y .phase) (x .same .records c m)
@@ -222,8 +243,8 @@ module _ (r : Row) (c : ℕ) (m : inRow r c ≡ true) where
   unfolding matchSet
   alike-matchSet s t w time n x =
       subst (λ k. Alike r (matchSet s c w time) (pick (due k time) (withPhase (pinsOut t c) c w (Matched k))
-      (withPhase t c w (Armed time)))) (x .same .clock)
-      (alike-pick r (due (s .tcr1) time) _ _ _ _ (λ a. alike-phase r _ _ (alike-pins s t n x) c w w _ _ m refl refl)
+      (withPhase t c w (Armed time)))) (same-time s t x)
+      (alike-pick r (due (timeFor s c) time) _ _ _ _ (λ a. alike-phase r _ _ (alike-pins s t n x) c w w _ _ m refl refl)
       (λ a. alike-phase r s t x c w w _ _ m refl refl))
 
   alike-steps : (s t : State) (w : Way) (k p q time : ℕ) → Inside r c s → Alike r s t
@@ -260,8 +281,8 @@ module _ (r : Row) (c : ℕ) (m : inRow r c ≡ true) where
   alike-matchOf Requested s t n x = x
   alike-matchOf (Armed time) s t n x =
       subst (λ k. Alike r (matchOf (Armed time) c s) (pick (due k time) (withPhase (pinsOut t c) c ((channel t c) .way) (Matched k)) t))
-      (x .same .clock)
-      (alike-pick r (due (s .tcr1) time) _ _ _ _ (λ a. alike-phase r _ _ (alike-pins s t (n refl) x) c _ _ _ _ m (same-way s t x) refl)
+      (same-time s t x)
+      (alike-pick r (due (timeFor s c) time) _ _ _ _ (λ a. alike-phase r _ _ (alike-pins s t (n refl) x) c _ _ _ _ m (same-way s t x) refl)
       (λ a. x))
   alike-matchOf (Matched time) s t n x = x
 
@@ -275,14 +296,14 @@ module _ (r : Row) (c : ℕ) (m : inRow r c ≡ true) where
   alike-initialise s t x =
       let a : word s c 0 ≡ word t c 0 = x .same .words c 0 m (omega arith) in
       alike-status r _ _ c c
-      (alike-initialised r _ _ (alike-word r _ _ c 0 _ _ (x .same .words c 1 m (omega arith))
-      (alike-pin r s t c _ _ (ap (λ w. eqb (field 2 w 0) 1) a) x)) c true m)
+      (alike-setUp r _ _ (alike-word r _ _ c 0 _ _ (x .same .words c 1 m (omega arith))
+      (alike-pin r s t c _ _ (ap (λ w. eqb (field 2 w 0) 1) a) x)) c _ _ m (ap kindIn a))
 
   alike-tested : (s t : State) → Inside r c s → Alike r s t
-      → Alike r (outcome s c (s .tcr1) (onRequest (motorOf s c))) (outcome t c (t .tcr1) (onRequest (motorOf t c)))
+      → Alike r (outcome s c (timeFor s c) (onRequest (motorOf s c))) (outcome t c (timeFor t c) (onRequest (motorOf t c)))
   alike-tested s t n x =
-      subst (λ u. Alike r (outcome s c (s .tcr1) (onRequest (motorOf s c))) u)
-      (λ i. outcome t c (x .same .clock i) (onRequest (same-motor s t x i))) (alike-outcome s t _ _ n x)
+      subst (λ u. Alike r (outcome s c (timeFor s c) (onRequest (motorOf s c))) u)
+      (λ i. outcome t c (same-time s t x i) (onRequest (same-motor s t x i))) (alike-outcome s t _ _ n x)
 
   alike-stepRequest : (p : Phase) (s t : State) → Inside r c s → Alike r s t → Alike r (stepRequest p c s) (stepRequest p c t)
   unfolding stepRequest
@@ -329,4 +350,4 @@ module _ (r : Row) (c : ℕ) (m : inRow r c ≡ true) where
 
 pub alike-clocked : (r : Row) (s t : State) → Alike r s t → Alike r (clocked s) (clocked t)
 unfolding clocked
-alike-clocked r s t x = alike-time r s t x _ _ (ap (λ k. later k 1) (x .same .clock))
+alike-clocked r s t x = alike-time r s t x _ _ (ap (onward 1) (x .same .clock))

@@ -26,9 +26,9 @@ inRow r j = leb (r .first) j && leb j (r .final)
 
 -- ---- what of a state is the row's own
 
--- two states that agree in all of it: TCR1, and of each channel its words, its record, its pin and its fields of HSRR, CFSR and CPR
+-- two states that agree in all of it: the timers, and of each channel its words, its record, its pin and its fields of HSRR, CFSR and CPR
 pub record Same (r : Row) (s t : State) : Type 0 where
-  pub clock : s .tcr1 ≡ t .tcr1
+  pub clock : s .timers ≡ t .timers
   pub words : (j i : ℕ) → inRow r j ≡ true → i < 8 → word s j i ≡ word t j i
   pub records : (j : ℕ) → inRow r j ≡ true → channel s j ≡ channel t j
   pub pins : (j : ℕ) → inRow r j ≡ true → pin s j ≡ pin t j

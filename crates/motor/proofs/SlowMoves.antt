@@ -10,7 +10,7 @@ use mathlib.Core.Option.{Option, none, some}
 use lib.Dec.{ltb, leb, eqb}
 use borrow.Author.Tests.{eq-eqb, ne-eqb, le-ltb, eqb-false}
 use Rattle.words.specs.Choice.{pick}
-use Rattle.words.specs.Clock.{due, later}
+use Rattle.words.specs.Clock.{due}
 use Rattle.words.proofs.ChoiceLaws.{pick-cases, not-both, tests}
 use Rattle.motor.specs.declared.Way.{Way}
 use Rattle.motor.specs.declared.Way.the-variants.{Right, Left}
@@ -23,7 +23,7 @@ use Rattle.motor.specs.declared.Choice.{Choice}
 use Rattle.motor.specs.declared.Choice.the-variants.{Onward, Back}
 use Rattle.motor.specs.Stepping.{ahead, accelerates, choice, steps, test, turn, onRequest, onMatch, beside, moved}
 use Rattle.motor.specs.Track.{distance, Valid}
-use Rattle.motor.specs.Group.{Group, bound, armed, happened, outcome, serve, clocked, tick, altered, Sound, SlowAtFirst}
+use Rattle.motor.specs.Group.{Group, timeOf, nextTime, bound, armed, happened, outcome, serve, clocked, tick, altered, Sound, SlowAtFirst}
 use Rattle.motor.specs.Count.{Tick, Move, movesOf, movesIn, latest, after, Running, isTarget, NoTarget, Standing}
 use Rattle.motor.specs.GroupCount.{Act, Ticks, Aims, Alters, next, eventOf, see, moments, final, Fair, SetGoing}
 use Rattle.motor.specs.SlowMoves.{AllSlow, LastSlow, Pace, Paced, SlowMoves}
@@ -174,14 +174,14 @@ outcome-drives g reference (Step w k) d = record { motor = inr d; course = armed
 serve-drives : (p : Phase) (g : Group) → Valid (g .motor) → Course p (g .motor) → Course (g .phase) (g .motor) → Drives (g .motor) (serve p g)
 unfolding serve Course
 serve-drives Resting g v o c = record { motor = inl refl; course = c }
-serve-drives Requested g v o c = outcome-drives g (g .clock) (onRequest (g .motor)) (heads-request (g .motor) v o)
+serve-drives Requested g v o c = outcome-drives g (timeOf g) (onRequest (g .motor)) (heads-request (g .motor) v o)
 serve-drives (Armed t) g v o c = record { motor = inl refl; course = c }
 serve-drives (Matched t) g v o c = outcome-drives g t (onMatch (g .motor)) (heads-match (g .motor) v o)
 
 tick-drives : (g : Group) → Sound g → Course (g .phase) (g .motor) → Drives (g .motor) (tick g)
 unfolding tick clocked
 tick-drives g s o =
-    let c : Course (happened (later (g .clock) 1) (g .phase)) (g .motor) = happened-course (later (g .clock) 1) (g .phase) (g .motor) o in
+    let c : Course (happened (nextTime g) (g .phase)) (g .motor) = happened-course (nextTime g) (g .phase) (g .motor) o in
     pick-cases (Drives (g .motor)) (g .enabled) (λ a. serve-drives ((clocked g) .phase) (clocked g) (s .valid) c c) (λ a. record { motor = inl refl; course = c })
 
 -- ---- many

@@ -7,6 +7,8 @@ use mathlib.Core.List.{map}
 use lib.Dec.{eqb}
 use lib.ListN.{length, getD, length-map}
 use borrow.Author.Tests.{eq-eqb}
+use Rattle.words.specs.declared.Timer.{Timer}
+use Rattle.words.specs.declared.Timer.the-variants.{Tcr1, Tcr2}
 use Rattle.words.specs.Field.{field, bitOf, bitValue}
 use Rattle.motor.specs.declared.Way.{Way}
 use Rattle.motor.specs.declared.Way.the-variants.{Right, Left}
@@ -16,18 +18,18 @@ use Rattle.unit.specs.declared.Channel.{Channel}
 use Rattle.unit.specs.declared.State.{State}
 use Rattle.unit.specs.TheUnit.{idle, resetState}
 use Rattle.unit.proofs.Reset.{Sized}
-use Rattle.pack.specs.Packing.{tabulate, wayNumber, wayFrom, phaseNumber, timeIn, phaseFrom, flagsOf, timeOf, channelFrom, packedWord, packed, zeros, isWhole, wordIn, regIn, channelIn, stateIn, unpacked}
+use Rattle.pack.specs.Packing.{tabulate, wayNumber, wayFrom, timerNumber, timerFrom, phaseNumber, timeIn, phaseFrom, flagsOf, timeOf, channelFrom, packedWord, packed, zeros, isWhole, wordIn, regIn, channelIn, stateIn, unpacked}
 use Rattle.pack.proofs.Tabled.{length-tabled, tabled-at, tabled-is}
-use Rattle.pack.proofs.Parts.{at-words, at-registers, at-timer, at-pins, at-flags, at-times}
+use Rattle.pack.proofs.Parts.{at-words, at-registers, at-timer, at-second, at-pins, at-flags, at-times}
 
 -- ---- a channel
 
--- the flags are four numbers side by side
-flags-apart : (a b c d : ℕ) → a ≤ 1 → b ≤ 1 → c ≤ 1 → d ≤ 3
-    → let w : ℕ = a + 2 * b + 4 * c + 8 * d in
-    (field 1 w 0 ≡ a) × (field 1 w 1 ≡ b) × (field 1 w 2 ≡ c) × (field 2 w 3 ≡ d)
+-- the flags are six numbers side by side
+flags-apart : (a b c d e f : ℕ) → a ≤ 1 → b ≤ 1 → c ≤ 1 → d ≤ 3 → e ≤ 1 → f ≤ 1
+    → let w : ℕ = a + 2 * b + 4 * c + 8 * d + 32 * e + 64 * f in
+    (field 1 w 0 ≡ a) × (field 1 w 1 ≡ b) × (field 1 w 2 ≡ c) × (field 2 w 3 ≡ d) × (field 1 w 5 ≡ e) × (field 1 w 6 ≡ f)
 unfolding field
-flags-apart a b c d ha hb hc hd = (omega arith, omega arith, omega arith, omega arith)
+flags-apart a b c d e f ha hb hc hd he hf = (omega arith, omega arith, omega arith, omega arith, omega arith, omega arith)
 
 bit-small : (b : Bool) → bitValue b ≤ 1
 bit-small true = omega arith
@@ -36,6 +38,10 @@ bit-small false = omega arith
 way-small : (w : Way) → wayNumber w ≤ 1
 way-small Right = omega arith
 way-small Left = omega arith
+
+timer-small : (k : Timer) → timerNumber k ≤ 1
+timer-small Tcr1 = omega arith
+timer-small Tcr2 = omega arith
 
 phase-small : (p : Phase) → phaseNumber p ≤ 3
 phase-small Resting = omega arith
@@ -51,6 +57,10 @@ way-back : (w : Way) → wayFrom (eqb (wayNumber w) 1) ≡ w
 way-back Right = refl
 way-back Left = refl
 
+timer-back : (k : Timer) → timerFrom (eqb (timerNumber k) 1) ≡ k
+timer-back Tcr1 = refl
+timer-back Tcr2 = refl
+
 phase-back : (p : Phase) → phaseFrom (phaseNumber p) (timeIn p) ≡ p
 unfolding phaseFrom
 phase-back Resting = refl
@@ -61,14 +71,14 @@ phase-back (Matched captured) = refl
 channel-back : (x : Channel) → channelFrom (flagsOf x) (timeOf x) ≡ x
 unfolding channelFrom flagsOf timeOf bitOf
 channel-back x =
-    let parts = flags-apart (bitValue (x .initialised)) (bitValue (x .level)) (wayNumber (x .way)) (phaseNumber (x .phase)) (bit-small (x .initialised)) (bit-small (x .level)) (way-small (x .way)) (phase-small (x .phase)) in
-    rw (parts .0, parts .1, parts .2, parts .3, bit-back (x .initialised), bit-back (x .level), way-back (x .way), phase-back (x .phase))
+    let parts = flags-apart (bitValue (x .initialised)) (bitValue (x .level)) (wayNumber (x .way)) (phaseNumber (x .phase)) (timerNumber (x .kind)) (timerNumber (x .timer)) (bit-small (x .initialised)) (bit-small (x .level)) (way-small (x .way)) (phase-small (x .phase)) (timer-small (x .kind)) (timer-small (x .timer)) in
+    rw (parts .0, parts .1, parts .2, parts .3, parts .4, parts .5, bit-back (x .initialised), bit-back (x .level), way-back (x .way), phase-back (x .phase), timer-back (x .kind), timer-back (x .timer))
 
 -- ---- a state
 
-word-of : (st : State) (i : ℕ) → i < 174 → getD (packed st) i 0 ≡ packedWord st i
+word-of : (st : State) (i : ℕ) → i < 175 → getD (packed st) i 0 ≡ packedWord st i
 unfolding packed
-word-of st i h = tabled-at (packedWord st) 0 174 i h
+word-of st i h = tabled-at (packedWord st) 0 175 i h
 
 words-back : (st : State) → Sized st → tabulate 128 (wordIn (packed st)) ≡ st .words
 words-back st z = tabled-is _ 0 (st .words) 128 (z .words) (λ i h. word-of st i (omega arith) ∙ sym (at-words st i h))
@@ -87,22 +97,23 @@ channels-back st z = tabled-is _ idle (st .channels) 16 (z .channels) each
     each : (i : ℕ) → i < 16 → channelIn (packed st) i ≡ getD (st .channels) i idle
     each i h =
         let x = getD (st .channels) i idle in
-        let e : 142 + i - 142 ≡ i = omega arith in
-        let f : 158 + i - 158 ≡ i = omega arith in
-        let flags : getD (packed st) (142 + i) 0 ≡ flagsOf x = word-of st (142 + i) (omega arith) ∙ sym (at-flags st (142 + i) (omega arith) (omega arith)) ∙ ap (λ (k : ℕ). flagsOf (getD (st .channels) k idle)) e in
-        let time : getD (packed st) (158 + i) 0 ≡ timeOf x = word-of st (158 + i) (omega arith) ∙ sym (at-times st (158 + i) (omega arith)) ∙ ap (λ (k : ℕ). timeOf (getD (st .channels) k idle)) f in
+        let e : 143 + i - 143 ≡ i = omega arith in
+        let f : 159 + i - 159 ≡ i = omega arith in
+        let flags : getD (packed st) (143 + i) 0 ≡ flagsOf x = word-of st (143 + i) (omega arith) ∙ sym (at-flags st (143 + i) (omega arith) (omega arith)) ∙ ap (λ (k : ℕ). flagsOf (getD (st .channels) k idle)) e in
+        let time : getD (packed st) (159 + i) 0 ≡ timeOf x = word-of st (159 + i) (omega arith) ∙ sym (at-times st (159 + i) (omega arith)) ∙ ap (λ (k : ℕ). timeOf (getD (st .channels) k idle)) f in
         rw (flags, time) (channel-back x)
 
 in-back : (st : State) → Sized st → stateIn (packed st) ≡ st
 unfolding stateIn
 in-back st z =
-    let t : getD (packed st) 140 0 ≡ st .tcr1 = word-of st 140 (omega arith) ∙ sym (at-timer st) in
-    let p : getD (packed st) 141 0 ≡ st .pins = word-of st 141 (omega arith) ∙ sym (at-pins st) in
-    rw (words-back st z, regs-back st z, t, p, channels-back st z)
+    let t : getD (packed st) 140 0 ≡ st .timers .tcr1 = word-of st 140 (omega arith) ∙ sym (at-timer st) in
+    let u : getD (packed st) 141 0 ≡ st .timers .tcr2 = word-of st 141 (omega arith) ∙ sym (at-second st) in
+    let p : getD (packed st) 142 0 ≡ st .pins = word-of st 142 (omega arith) ∙ sym (at-pins st) in
+    rw (words-back st z, regs-back st z, t, u, p, channels-back st z)
 
 whole-packed : (st : State) → isWhole (packed st) ≡ true
 unfolding isWhole packed
-whole-packed st = eq-eqb _ 174 (length-tabled (packedWord st) 174)
+whole-packed st = eq-eqb _ 175 (length-tabled (packedWord st) 175)
 
 back : (st : State) → Sized st → unpacked (packed st) ≡ st
 unfolding unpacked

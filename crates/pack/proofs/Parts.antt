@@ -16,18 +16,22 @@ pub at-registers : (st : State) (i : ℕ) → 128 ≤ i → i < 140 → getD (st
 unfolding packedWord
 at-registers st i l h = simp (le-ltb _ _ l, lt-ltb _ _ h)
 
-pub at-timer : (st : State) → st .tcr1 ≡ packedWord st 140
+pub at-timer : (st : State) → st .timers .tcr1 ≡ packedWord st 140
 unfolding packedWord
 at-timer st = refl
 
-pub at-pins : (st : State) → st .pins ≡ packedWord st 141
+pub at-second : (st : State) → st .timers .tcr2 ≡ packedWord st 141
+unfolding packedWord
+at-second st = refl
+
+pub at-pins : (st : State) → st .pins ≡ packedWord st 142
 unfolding packedWord
 at-pins st = refl
 
-pub at-flags : (st : State) (i : ℕ) → 142 ≤ i → i < 158 → flagsOf (getD (st .channels) (i - 142) idle) ≡ packedWord st i
+pub at-flags : (st : State) (i : ℕ) → 143 ≤ i → i < 159 → flagsOf (getD (st .channels) (i - 143) idle) ≡ packedWord st i
 unfolding packedWord
-at-flags st i l h = simp (le-ltb i 128 (omega arith), le-ltb i 140 (omega arith), le-ltb i 141 (omega arith), le-ltb i 142 l, lt-ltb i 158 h)
+at-flags st i l h = simp (le-ltb i 128 (omega arith), le-ltb i 140 (omega arith), le-ltb i 141 (omega arith), le-ltb i 142 (omega arith), le-ltb i 143 l, lt-ltb i 159 h)
 
-pub at-times : (st : State) (i : ℕ) → 158 ≤ i → timeOf (getD (st .channels) (i - 158) idle) ≡ packedWord st i
+pub at-times : (st : State) (i : ℕ) → 159 ≤ i → timeOf (getD (st .channels) (i - 159) idle) ≡ packedWord st i
 unfolding packedWord
-at-times st i l = simp (le-ltb i 128 (omega arith), le-ltb i 140 (omega arith), le-ltb i 141 (omega arith), le-ltb i 142 (omega arith), le-ltb i 158 l)
+at-times st i l = simp (le-ltb i 128 (omega arith), le-ltb i 140 (omega arith), le-ltb i 141 (omega arith), le-ltb i 142 (omega arith), le-ltb i 143 (omega arith), le-ltb i 159 l)

@@ -1,9 +1,11 @@
--- The state in 174 words: 128 parameter words, 12 registers, TCR1, the pins, 16 words of flags, 16 times.
+-- The state in 175 words: 128 parameter words, 12 registers, TCR1, TCR2, the pins, 16 words of flags, 16 times.
 use Prim.Native.Nat.{ℕ, zero, suc, _+_, _-_, _*_}
 use mathlib.Core.Bool.{Bool, true, false}
 use mathlib.Core.List.{List, [], _∷_, _++_}
 use lib.ListN.{length, getD, replicate}
 use lib.Dec.{eqb, ltb}
+use Rattle.words.specs.declared.Timer.{Timer}
+use Rattle.words.specs.declared.Timer.the-variants.{Tcr1, Tcr2}
 use Rattle.words.specs.Choice.{pick}
 use Rattle.words.specs.Field.{field, bitOf, bitValue}
 use Rattle.motor.specs.declared.Way.{Way}
@@ -16,7 +18,7 @@ use Rattle.unit.specs.TheUnit.{idle, resetState}
 
 -- how many words hold a state
 abbrev pub stateWords : ℕ
-stateWords = 174
+stateWords = 175
 
 -- f 0, f 1 and so on up to f (n - 1)
 unfoldable pub tabulate : {A : Type 0} → ℕ → (ℕ → A) → List A
@@ -52,9 +54,20 @@ unfoldable pub phaseFrom : ℕ → ℕ → Phase
 phaseFrom number time =
     pick (eqb number 1) Requested (pick (eqb number 2) (Armed time) (pick (eqb number 3) (Matched time) Resting))
 
+-- bit 5: the kind of the channel; bit 6: the timer of the group
+abbrev pub timerNumber : Timer → ℕ
+timerNumber Tcr1 = 0
+timerNumber Tcr2 = 1
+
+abbrev pub timerFrom : Bool → Timer
+timerFrom false = Tcr1
+timerFrom true = Tcr2
+
 -- bit 0: the channel is initialised; bit 1: its prepared level
 unfoldable pub flagsOf : Channel → ℕ
-flagsOf x = bitValue (x .initialised) + 2 * bitValue (x .level) + 4 * wayNumber (x .way) + 8 * phaseNumber (x .phase)
+flagsOf x =
+    bitValue (x .initialised) + 2 * bitValue (x .level) + 4 * wayNumber (x .way) + 8 * phaseNumber (x .phase)
+    + 32 * timerNumber (x .kind) + 64 * timerNumber (x .timer)
 
 unfoldable pub timeOf : Channel → ℕ
 timeOf x = timeIn (x .phase)
@@ -62,7 +75,14 @@ timeOf x = timeIn (x .phase)
 -- other bits of the flags, and the time of a phase that has none, mean nothing
 unfoldable pub channelFrom : ℕ → ℕ → Channel
 channelFrom flags time =
-    record { initialised = bitOf flags 0; level = bitOf flags 1; way = wayFrom (bitOf flags 2); phase = phaseFrom (field 2 flags 3) time }
+    record {
+      initialised = bitOf flags 0;
+      kind = timerFrom (bitOf flags 5);
+      level = bitOf flags 1;
+      timer = timerFrom (bitOf flags 6);
+      way = wayFrom (bitOf flags 2);
+      phase = phaseFrom (field 2 flags 3) time;
+    }
 
 -- ---- a state as words
 
@@ -71,10 +91,11 @@ unfoldable pub packedWord : State → ℕ → ℕ
 packedWord st i =
     pick (ltb i 128) (getD (st .words) i 0)
     (pick (ltb i 140) (getD (st .regs) (i - 128) 0)
-    (pick (ltb i 141) (st .tcr1)
-    (pick (ltb i 142) (st .pins)
-    (pick (ltb i 158) (flagsOf (getD (st .channels) (i - 142) idle))
-    (timeOf (getD (st .channels) (i - 158) idle))))))
+    (pick (ltb i 141) (st .timers .tcr1)
+    (pick (ltb i 142) (st .timers .tcr2)
+    (pick (ltb i 143) (st .pins)
+    (pick (ltb i 159) (flagsOf (getD (st .channels) (i - 143) idle))
+    (timeOf (getD (st .channels) (i - 159) idle)))))))
 
 unfoldable pub packed : State → List ℕ
 packed st = tabulate stateWords (packedWord st)
@@ -100,11 +121,17 @@ abbrev pub regIn : List ℕ → ℕ → ℕ
 regIn s i = getD s (128 + i) 0
 
 abbrev pub channelIn : List ℕ → ℕ → Channel
-channelIn s i = channelFrom (getD s (142 + i) 0) (getD s (158 + i) 0)
+channelIn s i = channelFrom (getD s (143 + i) 0) (getD s (159 + i) 0)
 
 unfoldable pub stateIn : List ℕ → State
 stateIn s =
-    record { words = tabulate 128 (wordIn s); regs = tabulate 12 (regIn s); tcr1 = getD s 140 0; pins = getD s 141 0; channels = tabulate 16 (channelIn s) }
+    record {
+      words = tabulate 128 (wordIn s);
+      regs = tabulate 12 (regIn s);
+      timers = record { tcr1 = getD s 140 0; tcr2 = getD s 141 0 };
+      pins = getD s 142 0;
+      channels = tabulate 16 (channelIn s);
+    }
 
 -- every content is a state; words of another number are the one after reset
 unfoldable pub unpacked : List ℕ → State

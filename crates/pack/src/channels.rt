@@ -2,16 +2,23 @@
 ghost use mathlib.Core.Path.{_≡_};
 ghost use Prim.Native.Nat.{_≤_};
 ghost use Rattle.words.specs.Field.{bitValue};
-ghost use Rattle.pack.specs.Packing.{wayFrom, phaseFrom, channelFrom, wayNumber, phaseNumber, flagsOf, timeIn, timeOf};
+ghost use Rattle.pack.specs.Packing.{wayFrom, timerFrom, phaseFrom, channelFrom, wayNumber, timerNumber, phaseNumber, flagsOf, timeIn, timeOf};
 use motor::Phase;
 use motor::Way;
 use unit::Channel;
+use words::Timer;
 use words::field;
 
 fn way_from(left: bool) -> Way
     ensures { λ r. ⌜ r ≡ wayFrom left ⌝ }
 {
     if left { Way::Left } else { Way::Right }
+}
+
+fn timer_from(second: bool) -> Timer
+    ensures { λ r. ⌜ r ≡ timerFrom second ⌝ }
+{
+    if second { Timer::Tcr2 } else { Timer::Tcr1 }
 }
 
 fn phase_from(number: u16, time: u16) -> Phase
@@ -34,9 +41,13 @@ pub fn channel_from(flags: u16, time: u16) -> Channel
 {
     let way = way_from(field::bit(flags, 2));
     let phase = phase_from((flags >> 3) & 3, time);
+    let kind = timer_from(field::bit(flags, 5));
+    let timer = timer_from(field::bit(flags, 6));
     Channel {
         initialised: field::bit(flags, 0),
+        kind: kind,
         level: field::bit(flags, 1),
+        timer: timer,
         way: way,
         phase: phase,
     }
@@ -58,6 +69,15 @@ fn way_number(w: Way) -> u16
     }
 }
 
+fn timer_number(t: Timer) -> u16
+    ensures { λ r. ⌜ (r ≡ timerNumber t) × (r ≤ 1) ⌝ }
+{
+    match t {
+        Timer::Tcr1 => 0,
+        Timer::Tcr2 => 1,
+    }
+}
+
 fn phase_number(p: Phase) -> u16
     ensures { λ r. ⌜ (r ≡ phaseNumber p) × (r ≤ 3) ⌝ }
 {
@@ -74,10 +94,14 @@ pub fn flags_of(x: Channel) -> u16
 {
     let way = x.way;
     let phase = x.phase;
+    let kind = x.kind;
+    let timer = x.timer;
     bit_number(x.initialised)
         + 2 * bit_number(x.level)
         + 4 * way_number(way)
         + 8 * phase_number(phase)
+        + 32 * timer_number(kind)
+        + 64 * timer_number(timer)
 }
 
 fn time_in(p: Phase) -> u16

@@ -1,4 +1,4 @@
-// The state into 174 words, part after part: each finds the words before its own laid, and leaves one part more.
+// The state into 175 words, part after part: each finds the words before its own laid, and leaves one part more.
 ghost use mathlib.Core.Path.{_≡_};
 ghost use lib.ListN.{length, take};
 ghost use Rattle.pack.specs.Packing.{tabulate, packedWord, packed};
@@ -6,8 +6,8 @@ use crate::channels;
 use unit::State;
 
 fn lay_words(st: State, s: &mut [u16])
-    requires { ⌜ length (now s) ≡ 174 ⌝ }
-    ensures { λ _. ⌜ (length (now (s .exit)) ≡ 174) × (take 128 (now (s .exit)) ≡ tabulate 128 (packedWord st)) ⌝ }
+    requires { ⌜ length (now s) ≡ 175 ⌝ }
+    ensures { λ _. ⌜ (length (now (s .exit)) ≡ 175) × (take 128 (now (s .exit)) ≡ tabulate 128 (packedWord st)) ⌝ }
 {
     let mut i: usize = 0;
     while i < 128 {
@@ -17,8 +17,8 @@ fn lay_words(st: State, s: &mut [u16])
 }
 
 fn lay_registers(st: State, s: &mut [u16])
-    requires { ⌜ (length (now s) ≡ 174) × (take 128 (now s) ≡ tabulate 128 (packedWord st)) ⌝ }
-    ensures { λ _. ⌜ (length (now (s .exit)) ≡ 174) × (take 140 (now (s .exit)) ≡ tabulate 140 (packedWord st)) ⌝ }
+    requires { ⌜ (length (now s) ≡ 175) × (take 128 (now s) ≡ tabulate 128 (packedWord st)) ⌝ }
+    ensures { λ _. ⌜ (length (now (s .exit)) ≡ 175) × (take 140 (now (s .exit)) ≡ tabulate 140 (packedWord st)) ⌝ }
 {
     let mut i: usize = 128;
     while i < 140 {
@@ -27,41 +27,42 @@ fn lay_registers(st: State, s: &mut [u16])
     }
 }
 
-// TCR1 and the pins.
+// The timers and the pins.
 fn lay_timer(st: State, s: &mut [u16])
-    requires { ⌜ (length (now s) ≡ 174) × (take 140 (now s) ≡ tabulate 140 (packedWord st)) ⌝ }
-    ensures { λ _. ⌜ (length (now (s .exit)) ≡ 174) × (take 142 (now (s .exit)) ≡ tabulate 142 (packedWord st)) ⌝ }
+    requires { ⌜ (length (now s) ≡ 175) × (take 140 (now s) ≡ tabulate 140 (packedWord st)) ⌝ }
+    ensures { λ _. ⌜ (length (now (s .exit)) ≡ 175) × (take 143 (now (s .exit)) ≡ tabulate 143 (packedWord st)) ⌝ }
 {
-    s[140] = st.tcr1;
-    s[141] = st.pins;
+    s[140] = st.timers.tcr1;
+    s[141] = st.timers.tcr2;
+    s[142] = st.pins;
 }
 
 fn lay_flags(st: State, s: &mut [u16])
-    requires { ⌜ (length (now s) ≡ 174) × (take 142 (now s) ≡ tabulate 142 (packedWord st)) ⌝ }
-    ensures { λ _. ⌜ (length (now (s .exit)) ≡ 174) × (take 158 (now (s .exit)) ≡ tabulate 158 (packedWord st)) ⌝ }
+    requires { ⌜ (length (now s) ≡ 175) × (take 143 (now s) ≡ tabulate 143 (packedWord st)) ⌝ }
+    ensures { λ _. ⌜ (length (now (s .exit)) ≡ 175) × (take 159 (now (s .exit)) ≡ tabulate 159 (packedWord st)) ⌝ }
 {
-    let mut i: usize = 142;
-    while i < 158 {
-        let x = st.channels[i - 142];
+    let mut i: usize = 143;
+    while i < 159 {
+        let x = st.channels[i - 143];
         s[i] = channels::flags_of(x);
         i = i + 1;
     }
 }
 
 fn lay_times(st: State, s: &mut [u16])
-    requires { ⌜ (length (now s) ≡ 174) × (take 158 (now s) ≡ tabulate 158 (packedWord st)) ⌝ }
+    requires { ⌜ (length (now s) ≡ 175) × (take 159 (now s) ≡ tabulate 159 (packedWord st)) ⌝ }
     ensures { λ _. ⌜ now (s .exit) ≡ packed st ⌝ }
 {
-    let mut i: usize = 158;
-    while i < 174 {
-        let x = st.channels[i - 158];
+    let mut i: usize = 159;
+    while i < 175 {
+        let x = st.channels[i - 159];
         s[i] = channels::time_of(x);
         i = i + 1;
     }
 }
 
 pub fn lay(st: State, s: &mut [u16])
-    requires { ⌜ length (now s) ≡ 174 ⌝ }
+    requires { ⌜ length (now s) ≡ 175 ⌝ }
     ensures { λ _. ⌜ now (s .exit) ≡ packed st ⌝ }
 {
     lay_words(st, s);

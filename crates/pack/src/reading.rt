@@ -1,13 +1,14 @@
-// The state out of 174 words.
+// The state out of 175 words.
 ghost use mathlib.Core.Path.{_≡_};
 ghost use lib.ListN.{length};
 ghost use Rattle.pack.specs.Packing.{tabulate, wordIn, regIn, channelIn, stateIn};
 use crate::channels;
 use unit::Channel;
 use unit::State;
+use words::Timers;
 
 fn words_in(s: &[u16]) -> [u16; 128]
-    requires { ⌜ length (now s) ≡ 174 ⌝ }
+    requires { ⌜ length (now s) ≡ 175 ⌝ }
     ensures { λ r. ⌜ r ≡ tabulate 128 (wordIn (now (s .entry))) ⌝ }
 {
     let mut w = [0u16; 128];
@@ -18,7 +19,7 @@ fn words_in(s: &[u16]) -> [u16; 128]
 }
 
 fn regs_in(s: &[u16]) -> [u16; 12]
-    requires { ⌜ length (now s) ≡ 174 ⌝ }
+    requires { ⌜ length (now s) ≡ 175 ⌝ }
     ensures { λ r. ⌜ r ≡ tabulate 12 (regIn (now (s .entry))) ⌝ }
 {
     let mut w = [0u16; 12];
@@ -29,18 +30,18 @@ fn regs_in(s: &[u16]) -> [u16; 12]
 }
 
 fn channels_in(s: &[u16]) -> [Channel; 16]
-    requires { ⌜ length (now s) ≡ 174 ⌝ }
+    requires { ⌜ length (now s) ≡ 175 ⌝ }
     ensures { λ r. ⌜ r ≡ tabulate 16 (channelIn (now (s .entry))) ⌝ }
 {
     let mut w = [Channel::IDLE; 16];
     for i in 0..16 {
-        w[i] = channels::channel_from(s[142 + i], s[158 + i]);
+        w[i] = channels::channel_from(s[143 + i], s[159 + i]);
     }
     w
 }
 
 pub fn state_in(s: &[u16]) -> State
-    requires { ⌜ length (now s) ≡ 174 ⌝ }
+    requires { ⌜ length (now s) ≡ 175 ⌝ }
     ensures { λ r. ⌜ r ≡ stateIn (now (s .entry)) ⌝ }
 {
     let words = words_in(s);
@@ -49,8 +50,11 @@ pub fn state_in(s: &[u16]) -> State
     State {
         words,
         regs,
-        tcr1: s[140],
-        pins: s[141],
+        timers: Timers {
+            tcr1: s[140],
+            tcr2: s[141],
+        },
+        pins: s[142],
         channels,
     }
 }

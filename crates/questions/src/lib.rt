@@ -2,12 +2,14 @@
 ghost use mathlib.Core.Path.{_≡_};
 ghost use Prim.Native.Nat.{_<_};
 ghost use Rattle.unit.specs.TheUnit.{all, size, modCount};
-ghost use Rattle.unit.specs.Gate.{isStepper, mayInitialise, otherwiseZero, spanGood, isReady, groupReady, showsPattern, patternGood, rampGood, targetGood};
+ghost use Rattle.unit.specs.Gate.{isStepper, isTimed, mayInitialise, otherwiseZero, spanGood, isReady, groupReady, showsPattern, patternGood, rampGood, targetGood};
 use access::parameters;
 use access::records;
 use access::registers;
 use motor::step;
 use unit::State;
+use words::Timer;
+use words::clock;
 use words::field;
 use words::rotation;
 
@@ -18,12 +20,23 @@ pub fn is_stepper(s: State, c: u16) -> bool
     registers::function(s, c) == State::STEPPER
 }
 
+// Bits 8 to 5 of CHANNEL_CONTROL say capture and match by TCR1, 0100, or by TCR2, 0111.
+fn is_timed(control: u16) -> bool
+    ensures { λ r. ⌜ r ≡ isTimed control ⌝ }
+{
+    let timing = field::timing(control);
+    if timing == 4 {
+        return true;
+    }
+    timing == 7
+}
+
 // Question 4: CHANNEL_CONTROL forces the pin to the level that PIN_CONTROL has first.
 pub fn may_initialise(s: State, c: u16) -> bool
     ensures { λ r. ⌜ r ≡ mayInitialise s c ⌝ }
 {
     let control = parameters::word(s, c, 0);
-    if (control >> 5) & 15 != 4 {
+    if !is_timed(control) {
         return false;
     }
     if field::bit(parameters::word(s, c, 1), 15) {
@@ -63,9 +76,9 @@ pub fn span_good(s: State, c: u16) -> bool
     l <= c + State::MAX_REACH
 }
 
-// What question 6 asks of each channel of a group.
-fn is_ready(s: State, j: u16) -> bool
-    ensures { λ r. ⌜ r ≡ isReady s j ⌝ }
+// What question 6 asks of each channel of a group whose primary is of this kind.
+fn is_ready(s: State, kind: Timer, j: u16) -> bool
+    ensures { λ r. ⌜ r ≡ isReady s kind j ⌝ }
 {
     if !is_stepper(s, j) {
         return false;
@@ -74,7 +87,11 @@ fn is_ready(s: State, j: u16) -> bool
     if !x.initialised {
         return false;
     }
-    group::is_free(s, j)
+    if !group::is_free(s, j) {
+        return false;
+    }
+    let own = x.kind;
+    clock::same(own, kind)
 }
 
 // Question 6.
@@ -82,9 +99,11 @@ pub fn group_ready(s: State, c: u16) -> bool
     ensures { λ r. ⌜ r ≡ groupReady s c ⌝ }
 {
     let n = group::size(s, c);
+    let x = records::channel(s, c);
+    let kind = x.kind;
     let mut ready = true;
     for k in 0..n {
-        if !is_ready(s, c + k) {
+        if !is_ready(s, kind, c + k) {
             ready = false;
         }
     }

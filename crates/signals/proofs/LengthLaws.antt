@@ -62,7 +62,7 @@ pub values-short : (all : Bool) (old s : State) â†’ length (values all old s) â‰
 unfolding values
 values-short all old s =
     let p = pins-short 16 all (old .pins) (s .pins) in
-    let t = vector-short all (old .tcr1) (s .tcr1) 33 in
+    let t = vector-short all (old .timers .tcr1) (s .timers .tcr1) 33 in
     let q = positions-short 16 all old s in
     let l = wire-short all (interruptLine s) (bitValue (interruptLine old)) 34 in
     simp length-append (omega arith)

@@ -62,6 +62,6 @@ positionValues (suc c) all old s = positionValues c all old s ++ vectorValue all
 unfoldable pub values : Bool → State → State → List ℕ
 values all old s =
     pinValues 16 all (old .pins) (s .pins)
-    ++ (vectorValue all (old .tcr1) (s .tcr1) 33
+    ++ (vectorValue all (old .timers .tcr1) (s .timers .tcr1) 33
     ++ (positionValues 16 all old s
     ++ wireValue all (bitValue (interruptLine old)) (bitValue (interruptLine s)) 34))

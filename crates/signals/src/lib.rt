@@ -13,7 +13,14 @@ pub fn values(out: &mut [u8], at: usize, all: bool, old: State, s: State) -> usi
     ensures { λ r. ⌜ Wrote (now (out .entry)) at (values all old s) r (now (out .exit)) ⌝ }
 {
     let a = pins(out, at, all, old.pins, s.pins);
-    let b = vector_value(out, a, all, old.tcr1 as u32, s.tcr1 as u32, b'!');
+    let b = vector_value(
+        out,
+        a,
+        all,
+        old.timers.tcr1 as u32,
+        s.timers.tcr1 as u32,
+        b'!',
+    );
     let c = positions(out, b, all, old, s);
     wire_value(
         out,

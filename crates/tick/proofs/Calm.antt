@@ -1,4 +1,4 @@
--- Where no request is pending and no match is due or has happened, a tick only moves the clock.
+-- Where no request is pending and no match is due or has happened, a tick only moves the timers.
 use Prim.Native.Nat.{ℕ, _+_, _*_, _%_, _^_, _<_}
 use native.Mathlib.Nat.{zero-div}
 use native.Mathlib.Omega.{arith}
@@ -8,7 +8,7 @@ use lib.Dec.{ltb}
 use borrow.Author.Tests.{ltb-true, ltb-false}
 use Rattle.motor.specs.declared.Phase.{Phase}
 use Rattle.unit.specs.declared.State.{State}
-use Rattle.unit.specs.TheUnit.{each, reg, request, hsrrOf, channel}
+use Rattle.unit.specs.TheUnit.{each, reg, request, hsrrOf, channel, timeFor}
 use Rattle.unit.specs.OneTick.{matched, served}
 use Rattle.unit.specs.Pending.{isDue, isMatched}
 use Rattle.unit.proofs.Tests.{or-none}
@@ -38,7 +38,7 @@ no-request s c h7 h8 l = by (ltb c 8) refl
     by true e = let k : hsrrOf c ≡ 8 = omega (arith, ltb-true c 8 e) in rw (k, h8, zero-div (2 ^ (2 * (c % 8)))) refl
     by false e = let k : hsrrOf c ≡ 7 = omega (arith, ltb-false c 8 e, l) in rw (k, h7, zero-div (2 ^ (2 * (c % 8)))) refl
 
-pub calm-rests : (s : State) → reg s 7 ≡ 0 → reg s 8 ≡ 0 → ((c : ℕ) → c < 16 → stirs ((channel s c) .phase) (s .tcr1) ≡ false) → each 16 0 served (each 16 0 matched s) ≡ s
+pub calm-rests : (s : State) → reg s 7 ≡ 0 → reg s 8 ≡ 0 → ((c : ℕ) → c < 16 → stirs ((channel s c) .phase) (timeFor s c) ≡ false) → each 16 0 served (each 16 0 matched s) ≡ s
 calm-rests s h7 h8 calm =
     let m : each 16 0 matched s ≡ s = each-rests 16 matched s (λ c l. match-rests s (0 + c) (not-stirring _ _ (calm (0 + c) (omega (arith, l))) .0)) in
     rw m (each-rests 16 served s (λ c l. passes-over s (0 + c) (nothing-wanted s (0 + c) (no-request s (0 + c) h7 h8 (omega (arith, l))) (not-stirring _ _ (calm (0 + c) (omega (arith, l))) .1))))

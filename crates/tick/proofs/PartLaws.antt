@@ -8,7 +8,7 @@ use lib.Dec.{eqb, leb}
 use lib.ListN.{length, getD, set, length-set}
 use lib.Seq.{set-getD}
 use Rattle.words.specs.Choice.{pick}
-use Rattle.words.specs.Clock.{due, later}
+use Rattle.words.specs.Clock.{due, later, timeBy}
 use Rattle.words.specs.Field.{withField, bitOf, bitValue}
 use Rattle.words.proofs.FieldLaws.{field-lt}
 use Rattle.motor.specs.declared.Way.{Way}
@@ -19,7 +19,7 @@ use Rattle.motor.specs.declared.Outcome.the-variants.{Arrived, Step}
 use Rattle.motor.specs.Stepping.{onRequest, onMatch}
 use Rattle.unit.specs.declared.Channel.{Channel}
 use Rattle.unit.specs.declared.State.{State}
-use Rattle.unit.specs.TheUnit.{idle, each, withPins, withPin, withReg, withRequest, withStatus, withWords, withWord, withChannel, withInitialised, withLevel, withPhase, channel, channelControl, pinControl, word, reg, hsrrOf, request, enabled, size, last, position, modCount, target, nextRate, top, cntl0, cntl1, motorOf}
+use Rattle.unit.specs.TheUnit.{idle, each, withPins, withPin, withReg, withRequest, withStatus, withWords, withWord, withChannel, withSetUp, withLevel, withPhase, timeFor, channel, channelControl, pinControl, word, reg, hsrrOf, request, enabled, size, last, position, modCount, target, nextRate, top, cntl0, cntl1, motorOf}
 use Rattle.unit.specs.Stepping.{pinOut, pinsOut, turnedOnce, prepared, matchSet, stepped, outcome}
 use Rattle.unit.specs.OneTick.{initialise, stepRequest, requestServed, matchServed, served}
 use Rattle.channel.specs.Record.{withLevelIn, inPhase, standing}
@@ -45,7 +45,7 @@ pins-parts s c = levels-each (size s c) c s
 
 -- words and channels of t, all else of s
 abbrev over : State → State → State
-over s t = record { words = t .words; regs = s .regs; tcr1 = s .tcr1; pins = s .pins; channels = t .channels }
+over s t = record { words = t .words; regs = s .regs; timers = s .timers; pins = s .pins; channels = t .channels }
 
 prepared-over : (w : Way) (m j : ℕ) (s t : State) → prepared w m j (over s t) ≡ over s (prepared w m j t)
 unfolding prepared withLevel withWord withWords withChannel channel channelControl pinControl word
@@ -64,8 +64,6 @@ moved-over (Step w k) c s t = each-over (size t c) c w _ s _
 moved-parts : (o : Outcome) (c : ℕ) (s : State) → moved o c s ≡ over s (moved o c (bare (s .words) (s .channels)))
 moved-parts o c s = moved-over o c s (bare (s .words) (s .channels))
 
--- ---- what was decided
-
 -- what a channel's record keeps as it is changed, every channel keeps
 kept : {A : Type 0} (f : Channel → A) (y : List Channel) (c j : ℕ) (z : Channel) → f z ≡ f (getD y c idle) → f (getD (set y c z) j idle) ≡ f (getD y j idle)
 kept f [] c j z h = refl
@@ -73,6 +71,19 @@ kept f (x ∷ y) zero zero z h = h
 kept f (x ∷ y) zero (suc j) z h = refl
 kept f (x ∷ y) (suc c) zero z h = refl
 kept f (x ∷ y) (suc c) (suc j) z h = kept f y c j z h
+
+-- a step leaves the timer of the group
+prepared-timer : (n c : ℕ) (w : Way) (m : ℕ) (t : State) (j : ℕ) → (channel (each n c (prepared w m) t) j) .timer ≡ (channel t j) .timer
+unfolding each prepared withLevel withWord withWords withChannel channel
+prepared-timer zero c w m t j = refl
+prepared-timer (suc n) c w m t j = kept (λ x. x .timer) ((each n c (prepared w m) t) .channels) (c + n) j _ refl ∙ prepared-timer n c w m t j
+
+moved-timer : (o : Outcome) (c : ℕ) (t : State) → (channel (moved o c t) c) .timer ≡ (channel t c) .timer
+unfolding moved withWord withWords channel
+moved-timer Arrived c t = refl
+moved-timer (Step w k) c t = prepared-timer (size t c) c w _ _ c
+
+-- ---- what was decided
 
 levels-kept : (n c : ℕ) (y : List Channel) (z : Channel) (p : ℕ) → z .level ≡ (getD y c idle) .level → levelsOut n c (set y c z) p ≡ levelsOut n c y p
 unfolding levelsOut
@@ -88,35 +99,40 @@ pub channels-after : (o : Outcome) (l : List ℕ) (x y : List Channel) (z : Chan
 unfolding channelsAfter
 channels-after o l x y z c now time e f = rw (f, e)
 
-set-match : (b : Bool) (u : State) (c : ℕ) (w : Way) (time : ℕ) → pick b (withPhase (pinsOut u c) c w (Matched (u .tcr1))) (withPhase u c w (Armed time)) ≡ record { words = u .words; regs = u .regs; tcr1 = u .tcr1; pins = pick b (levelsOut (size u c) c (u .channels) (u .pins)) (u .pins); channels = set (u .channels) c (inPhase (channel u c) w (pick b (Matched (u .tcr1)) (Armed time))) }
+set-match : (b : Bool) (u : State) (c : ℕ) (w : Way) (now time : ℕ) → pick b (withPhase (pinsOut u c) c w (Matched now)) (withPhase u c w (Armed time)) ≡ record { words = u .words; regs = u .regs; timers = u .timers; pins = pick b (levelsOut (size u c) c (u .channels) (u .pins)) (u .pins); channels = set (u .channels) c (inPhase (channel u c) w (pick b (Matched now) (Armed time))) }
 unfolding withPhase withChannel withPins channel
-set-match true u c w time = rw (pins-parts u c)
-set-match false u c w time = refl
+set-match true u c w now time = rw (pins-parts u c)
+set-match false u c w now time = refl
 
 -- the state after what was decided, part by part
-abbrev parted : Outcome → State → ℕ → ℕ → State → State
-parted o s c time t =
-    record { words = t .words; regs = set (s .regs) 11 (statusAfter o (getD (s .regs) 11 0) c); tcr1 = s .tcr1; pins = pinsAfter o (due (s .tcr1) time) (t .channels) (s .pins) c (sizeIn (getD (t .words) (8 * c + 5) 0) c); channels = set (t .channels) c (standing o (getD (t .channels) c idle) (s .tcr1) time) }
+abbrev parted : Outcome → State → ℕ → ℕ → ℕ → State → State
+parted o s c now time t =
+    record { words = t .words; regs = set (s .regs) 11 (statusAfter o (getD (s .regs) 11 0) c); timers = s .timers; pins = pinsAfter o (due now time) (t .channels) (s .pins) c (sizeIn (getD (t .words) (8 * c + 5) 0) c); channels = set (t .channels) c (standing o (getD (t .channels) c idle) now time) }
 
-as-parted : (o : Outcome) (s : State) (c r : ℕ) → outcome s c r o ≡ parted o s c (later r (periodIn (s .words) c)) (moved o c (bare (s .words) (s .channels)))
+as-parted : (o : Outcome) (s : State) (c r : ℕ) → outcome s c r o ≡ parted o s c (timeFor s c) (later r (periodIn (s .words) c)) (moved o c (bare (s .words) (s .channels)))
 unfolding outcome stepped matchSet moved withStatus withReg withPhase withChannel reg channel statusAfter pinsAfter standing cntl0 cntl1 nextRate word size last
 as-parted Arrived s c r = refl
 as-parted (Step w k) s c r =
     let time = later r (periodIn (s .words) c) in
     let t = moved (Step w k) c (bare (s .words) (s .channels)) in
-    ap (λ u. matchSet u c w time) (moved-parts (Step w k) c s) ∙ (set-match (due (s .tcr1) time) (over s t) c w time ∙ ap (λ l. record { words = t .words; regs = l; tcr1 = s .tcr1; pins = pick (due (s .tcr1) time) (levelsOut (size t c) c (t .channels) (s .pins)) (s .pins); channels = set (t .channels) c (inPhase (channel t c) w (pick (due (s .tcr1) time) (Matched (s .tcr1)) (Armed time))) }) (sym (set-getD (s .regs) 11 0)))
+    let n = timeFor (over s t) c in
+    let e : n ≡ timeFor s c = ap (λ i. timeBy i (s .timers)) (moved-timer (Step w k) c (bare (s .words) (s .channels))) in
+    ap (λ u. matchSet u c w time) (moved-parts (Step w k) c s)
+    ∙ (set-match (due n time) (over s t) c w n time
+    ∙ (ap (λ i. record { words = t .words; regs = s .regs; timers = s .timers; pins = pick (due i time) (levelsOut (size t c) c (t .channels) (s .pins)) (s .pins); channels = set (t .channels) c (inPhase (channel t c) w (pick (due i time) (Matched i) (Armed time))) }) e
+    ∙ ap (λ l. record { words = t .words; regs = l; timers = s .timers; pins = pick (due (timeFor s c) time) (levelsOut (size t c) c (t .channels) (s .pins)) (s .pins); channels = set (t .channels) c (inPhase (channel t c) w (pick (due (timeFor s c) time) (Matched (timeFor s c)) (Armed time))) }) (sym (set-getD (s .regs) 11 0))))
 
 -- the same, the pins worked out from the channels as they are then
-outcome-parts : (o : Outcome) (s : State) (c r : ℕ) → record { words = (moved o c (bare (s .words) (s .channels))) .words; regs = set (s .regs) 11 (statusAfter o (getD (s .regs) 11 0) c); tcr1 = s .tcr1; pins = pinsAfter o (due (s .tcr1) (later r (periodIn (s .words) c))) (channelsAfter o (s .words) (s .channels) c (s .tcr1) (later r (periodIn (s .words) c))) (s .pins) c (sizeIn (getD ((moved o c (bare (s .words) (s .channels))) .words) (8 * c + 5) 0) c); channels = channelsAfter o (s .words) (s .channels) c (s .tcr1) (later r (periodIn (s .words) c)) } ≡ outcome s c r o
+outcome-parts : (o : Outcome) (s : State) (c r : ℕ) → record { words = (moved o c (bare (s .words) (s .channels))) .words; regs = set (s .regs) 11 (statusAfter o (getD (s .regs) 11 0) c); timers = s .timers; pins = pinsAfter o (due (timeFor s c) (later r (periodIn (s .words) c))) (channelsAfter o (s .words) (s .channels) c (timeFor s c) (later r (periodIn (s .words) c))) (s .pins) c (sizeIn (getD ((moved o c (bare (s .words) (s .channels))) .words) (8 * c + 5) 0) c); channels = channelsAfter o (s .words) (s .channels) c (timeFor s c) (later r (periodIn (s .words) c)) } ≡ outcome s c r o
 unfolding channelsAfter
 outcome-parts o s c r =
     let t = moved o c (bare (s .words) (s .channels)) in
-    rw (pins-kept o (due (s .tcr1) (later r (periodIn (s .words) c))) (t .channels) (s .pins) c (sizeIn (getD (t .words) (8 * c + 5) 0) c) (s .tcr1) (later r (periodIn (s .words) c))) (sym (as-parted o s c r))
+    rw (pins-kept o (due (timeFor s c) (later r (periodIn (s .words) c))) (t .channels) (s .pins) c (sizeIn (getD (t .words) (8 * c + 5) 0) c) (timeFor s c) (later r (periodIn (s .words) c))) (sym (as-parted o s c r))
 
--- a test, by what it decides
-pub test-parts : (s : State) (c : ℕ) (x : Channel) → x .way ≡ (channel s c) .way → record { words = (moved (decidedIn (s .words) c x) c (bare (s .words) (s .channels))) .words; regs = set (s .regs) 11 ((testedIn (decidedIn (s .words) c x) (timeIn (s .words) c x (s .tcr1)) (s .words) (s .channels) (s .pins) (getD (s .regs) 11 0) c (s .tcr1)) .status); tcr1 = s .tcr1; pins = (testedIn (decidedIn (s .words) c x) (timeIn (s .words) c x (s .tcr1)) (s .words) (s .channels) (s .pins) (getD (s .regs) 11 0) c (s .tcr1)) .pins; channels = (testedIn (decidedIn (s .words) c x) (timeIn (s .words) c x (s .tcr1)) (s .words) (s .channels) (s .pins) (getD (s .regs) 11 0) c (s .tcr1)) .channels } ≡ outcome s c (reference (x .phase) (s .tcr1)) (decided (x .phase) (motorOf s c))
+-- a test, by what it decides, at the time of the group
+pub test-parts : (s : State) (c : ℕ) (x : Channel) (now : ℕ) → x .way ≡ (channel s c) .way → now ≡ timeFor s c → record { words = (moved (decidedIn (s .words) c x) c (bare (s .words) (s .channels))) .words; regs = set (s .regs) 11 ((testedIn (decidedIn (s .words) c x) (timeIn (s .words) c x now) (s .words) (s .channels) (s .pins) (getD (s .regs) 11 0) c now) .status); timers = s .timers; pins = (testedIn (decidedIn (s .words) c x) (timeIn (s .words) c x now) (s .words) (s .channels) (s .pins) (getD (s .regs) 11 0) c now) .pins; channels = (testedIn (decidedIn (s .words) c x) (timeIn (s .words) c x now) (s .words) (s .channels) (s .pins) (getD (s .regs) 11 0) c now) .channels } ≡ outcome s c (reference (x .phase) (timeFor s c)) (decided (x .phase) (motorOf s c))
 unfolding testedIn decidedIn timeIn motorOf position target nextRate top word
-test-parts s c x e = rw (← e) (outcome-parts (decided (x .phase) (motorIn (s .words) c (x .way))) s c (reference (x .phase) (s .tcr1)))
+test-parts s c x now e f = rw (← e, f) (outcome-parts (decided (x .phase) (motorIn (s .words) c (x .way))) s c (reference (x .phase) (timeFor s c)))
 
 -- ---- a service
 
@@ -140,14 +156,24 @@ abbrev pub first : Bool → ℕ → ℕ → State → State
 first on r c s = pick (pick on (leb 2 r) false) (requestDone s c r) s
 
 abbrev pub then : Bool → ℕ → Phase → ℕ → State → State
-then on r p c t = pick (isTested on r p) (outcome t c (reference p (t .tcr1)) (decided p (motorOf t c))) t
+then on r p c t = pick (isTested on r p) (outcome t c (reference p (timeFor t c)) (decided p (motorOf t c))) t
 
--- the request leaves the direction
+-- the request leaves the direction and the timer
 way-kept : (a b : Bool) (c : ℕ) (s : State) → (channel (pick a (pick b (initialise c (withRequest s c 0)) (withRequest s c 0)) s) c) .way ≡ (channel s c) .way
-unfolding channel initialise withRequest withStatus withReg withInitialised withChannel withWord withWords withPin withPins
+unfolding channel initialise withRequest withStatus withReg withSetUp withChannel withWord withWords withPin withPins
 way-kept true true c s = kept (λ x. x .way) (s .channels) c c _ refl
 way-kept true false c s = refl
 way-kept false b c s = refl
+
+timer-kept : (a b : Bool) (c : ℕ) (s : State) → (channel (pick a (pick b (initialise c (withRequest s c 0)) (withRequest s c 0)) s) c) .timer ≡ (channel s c) .timer
+unfolding channel initialise withRequest withStatus withReg withSetUp withChannel withWord withWords withPin withPins
+timer-kept true true c s = kept (λ x. x .timer) (s .channels) c c _ refl
+timer-kept true false c s = refl
+timer-kept false b c s = refl
+
+pub same-timer : (on : Bool) (r c : ℕ) (s t : State) → t ≡ first on r c s → (channel s c) .timer ≡ (channel t c) .timer
+unfolding requestDone
+same-timer on r c s t e = rw e (sym (timer-kept (pick on (leb 2 r) false) (eqb r 2) c s))
 
 pub same-way : (on : Bool) (r c : ℕ) (s t : State) → t ≡ first on r c s → (channel s c) .way ≡ (channel t c) .way
 unfolding requestDone
@@ -156,8 +182,8 @@ same-way on r c s t e = rw e (sym (way-kept (pick on (leb 2 r) false) (eqb r 2) 
 in-turn : (on : Bool) (r : ℕ) (p : Phase) (c : ℕ) (s : State) → r < 4 → then on r p c (first on r c s) ≡ pick on (matchServed p c (pick (eqb r 2) (initialise c (withRequest s c 0)) (pick (eqb r 3) (stepRequest p c (withRequest s c 0)) s))) s
 unfolding isTested reference decided requestDone matchServed stepRequest
 in-turn false r p c s h = refl
-in-turn true r Resting c s h = asked-to-step r (λ t. outcome t c (t .tcr1) (onRequest (motorOf t c))) (initialise c (withRequest s c 0)) (withRequest s c 0) s h
-in-turn true r Requested c s h = asked-to-step r (λ t. outcome t c (t .tcr1) (onRequest (motorOf t c))) (initialise c (withRequest s c 0)) (withRequest s c 0) s h
+in-turn true r Resting c s h = asked-to-step r (λ t. outcome t c (timeFor t c) (onRequest (motorOf t c))) (initialise c (withRequest s c 0)) (withRequest s c 0) s h
+in-turn true r Requested c s h = asked-to-step r (λ t. outcome t c (timeFor t c) (onRequest (motorOf t c))) (initialise c (withRequest s c 0)) (withRequest s c 0) s h
 in-turn true r (Armed time) c s h = asked r (initialise c (withRequest s c 0)) (withRequest s c 0) s h
 in-turn true r (Matched captured) c s h = ap (λ t. outcome t c captured (onMatch (motorOf t c))) (asked r (initialise c (withRequest s c 0)) (withRequest s c 0) s h)
 
@@ -197,7 +223,7 @@ arrival-moves o c s a = rw a
 
 -- ---- the scans
 
-pub match-parts : (s : State) (c : ℕ) → record { words = s .words; regs = s .regs; tcr1 = s .tcr1; pins = levelsOut (sizeIn (getD (s .words) (8 * c + 5) 0) c) c (s .channels) (s .pins); channels = set (s .channels) c (inPhase (getD (s .channels) c idle) ((getD (s .channels) c idle) .way) (Matched (s .tcr1))) } ≡ withPhase (pinsOut s c) c ((channel s c) .way) (Matched (s .tcr1))
+pub match-parts : (s : State) (c : ℕ) → record { words = s .words; regs = s .regs; timers = s .timers; pins = levelsOut (sizeIn (getD (s .words) (8 * c + 5) 0) c) c (s .channels) (s .pins); channels = set (s .channels) c (inPhase (getD (s .channels) c idle) ((getD (s .channels) c idle) .way) (Matched (timeFor s c))) } ≡ withPhase (pinsOut s c) c ((channel s c) .way) (Matched (timeFor s c))
 unfolding withPhase withChannel withPins channel size last word
 match-parts s c = rw (pins-parts s c) refl
 
@@ -221,7 +247,7 @@ moved-long Arrived c t = refl
 moved-long (Step w k) c t = prepared-long (size t c) c w _ _ ∙ rw (length-set, length-set) refl
 
 first-long : (a b : Bool) (c : ℕ) (s : State) → length ((pick a (pick b (initialise c (withRequest s c 0)) (withRequest s c 0)) s) .words) ≡ length (s .words)
-unfolding initialise withRequest withStatus withReg withInitialised withChannel withWord withWords withPin withPins
+unfolding initialise withRequest withStatus withReg withSetUp withChannel withWord withWords withPin withPins
 first-long true true c s = rw length-set
 first-long true false c s = refl
 first-long false b c s = refl
@@ -237,7 +263,7 @@ served-long c s =
     let r = request s c in
     let p = (channel s c) .phase in
     let t = first on r c s in
-    rw (← served-in-turn s c) (then-long (isTested on r p) (decided p (motorOf t c)) c (reference p (t .tcr1)) t ∙ first-long (pick on (leb 2 r) false) (eqb r 2) c s)
+    rw (← served-in-turn s c) (then-long (isTested on r p) (decided p (motorOf t c)) c (reference p (timeFor t c)) t ∙ first-long (pick on (leb 2 r) false) (eqb r 2) c s)
 
 pub all-served-long : (n : ℕ) (s : State) → length ((each n 0 served s) .words) ≡ length (s .words)
 unfolding each

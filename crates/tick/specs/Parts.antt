@@ -76,7 +76,7 @@ moved (Step w k) c s =
 
 -- a state of which nothing but words and channels is asked
 abbrev pub bare : List ℕ → List Channel → State
-bare l x = record { words = l; regs = []; tcr1 = 0; pins = 0; channels = x }
+bare l x = record { words = l; regs = []; timers = record { tcr1 = 0; tcr2 = 0 }; pins = 0; channels = x }
 
 -- the pins: they change where the match of a step is due as it is set
 unfoldable pub pinsAfter : Outcome → Bool → List Channel → ℕ → ℕ → ℕ → ℕ

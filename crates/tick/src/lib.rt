@@ -1,4 +1,4 @@
-// One tick: the clock, then the matches, then the services, channel by channel. The state is copied nowhere on the way but for a
+// One tick: the timers, then the matches, then the services, channel by channel. The state is copied nowhere on the way but for a
 // request: the scans look at small values, and a match or a step changes the parts of the state in place.
 mod matches;
 mod request;
@@ -19,10 +19,13 @@ fn match_all(mut s: State) -> State
     for c in 0..16 {
         let x = s.channels[c as usize];
         let phase = x.phase;
-        if pending::is_due(phase, s.tcr1) {
+        let timer = x.timer;
+        let timers = s.timers;
+        let now = clock::time_by(timer, timers);
+        if pending::is_due(phase, now) {
             let n = matches::size_of(&s.words, c);
             s.pins = matches::levels_out(s.channels, s.pins, c, n);
-            s.channels[c as usize] = record::happened(x, s.tcr1);
+            s.channels[c as usize] = record::happened(x, now);
         }
     }
     s
@@ -43,7 +46,9 @@ fn serve_all(mut s: State) -> State
             let before = s.channels;
             let pins = s.pins;
             let status = s.regs[11];
-            let now = s.tcr1;
+            let timer = x.timer;
+            let timers = s.timers;
+            let now = clock::time_by(timer, timers);
             let t = step::tested(&mut s.words, before, pins, status, c, x, now);
             let after = t.channels;
             s.channels = after;
@@ -57,8 +62,10 @@ fn serve_all(mut s: State) -> State
 pub fn tick(mut s: State) -> State
     ensures { λ r. ⌜ r ≡ tick s ⌝ }
 {
-    s.tcr1 = clock::later(s.tcr1, 1);
-    if matches::is_calm(s.regs[7], s.regs[8], s.channels, s.tcr1) {
+    let before = s.timers;
+    let timers = clock::onward(1, before);
+    s.timers = timers;
+    if matches::is_calm(s.regs[7], s.regs[8], s.channels, timers) {
         return s;
     }
     serve_all(match_all(s))

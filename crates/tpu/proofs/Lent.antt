@@ -8,8 +8,9 @@ use native.Mathlib.Omega.{arith}
 use lib.ListN.{length, take, drop, set, getD, replicate, length-drop, length-append, length-replicate, drop-of-length-le}
 use lib.Seq.{take-all, take-at, drop-at, drop-drop, drop-cons, set-at}
 use borrow.Rule.Slice.PartMut.{putMid}
+use Rattle.words.specs.declared.Timers.{Timers}
 use Rattle.unit.specs.declared.State.{State}
-use Rattle.unit.specs.TheUnit.{withTime}
+use Rattle.unit.specs.TheUnit.{withTimers}
 use Rattle.unit.specs.OneTick.{tick, afterTicks}
 use Rattle.unit.specs.Calls.{pinWords}
 use Rattle.unit.specs.Quiet.{quietBelow}
@@ -52,15 +53,15 @@ unfolding pinWords
 pin-words-long zero s = refl
 pin-words-long (suc n) s = rw (length-append, pin-words-long n s) (add-one n)
 
-pub pins-of : (s : State) (t : ℕ) → (withTime s t) .pins ≡ s .pins
-unfolding withTime
+pub pins-of : (s : State) (t : Timers) → (withTimers s t) .pins ≡ s .pins
+unfolding withTimers
 pins-of s t = refl
 
 -- quiet ticks show the pins as they are
-pub quiet-pins : (q : ℕ) (s : State) → s .tcr1 < 65536 → q ≤ quietBelow 16 s → pinWords q s ≡ replicate q (s .pins)
+pub quiet-pins : (q : ℕ) (s : State) → s .timers .tcr1 < 65536 → s .timers .tcr2 < 65536 → q ≤ quietBelow 16 s → pinWords q s ≡ replicate q (s .pins)
 unfolding pinWords
-quiet-pins zero s f h = refl
-quiet-pins (suc q) s f h = rw (quiet-pins q s f (omega (arith, h)), quiet-ticks s (suc q) f h, pins-of) (replicate-end q (s .pins))
+quiet-pins zero s f g h = refl
+quiet-pins (suc q) s f g h = rw (quiet-pins q s f g (omega (arith, h)), quiet-ticks s (suc q) f g h, pins-of) (replicate-end q (s .pins))
 
 pub lent-long : (i : ℕ) (s : State) (old : List ℕ) → i ≤ length old → length (pinWords i s ++ drop i old) ≡ length old
 lent-long i s old h = rw (length-append, pin-words-long, length-drop) (omega (arith, h))

@@ -3,10 +3,11 @@ ghost use mathlib.Core.Path.{_≡_};
 ghost use mathlib.Core.List.{_++_};
 ghost use Prim.Native.Nat.{_≤_, _<_};
 ghost use lib.ListN.{length, drop, replicate};
-ghost use Rattle.unit.specs.TheUnit.{withTime};
+ghost use Rattle.unit.specs.TheUnit.{withTimers};
 ghost use Rattle.unit.specs.OneTick.{afterTicks};
 ghost use Rattle.unit.specs.Calls.{pinWords};
 use unit::State;
+use words::Timers;
 use words::clock;
 
 // Some ticks at once, which all end with the same pin word.
@@ -15,10 +16,10 @@ struct Leap {
     state: State,
 }
 
-fn at_time(mut s: State, t: u16) -> State
-    ensures { λ r. ⌜ r ≡ withTime s t ⌝ }
+fn at_time(mut s: State, t: Timers) -> State
+    ensures { λ r. ⌜ r ≡ withTimers s t ⌝ }
 {
-    s.tcr1 = t;
+    s.timers = t;
     s
 }
 
@@ -35,7 +36,8 @@ fn onward(s: State, room: u16) -> Leap
             state: next,
         };
     }
-    let next = at_time(s, clock::later(s.tcr1, q));
+    let timers = s.timers;
+    let next = at_time(s, clock::onward(q, timers));
     Leap {
         ticks: q,
         state: next,

@@ -112,7 +112,7 @@ fn reached(r: Run) {
 // The motor rests until TCR1 is near $FFFF.
 fn wrap(from: u16, to: u16) {
     let r = run::asked(bench::ready(Setting::travel(from, to)), 65025);
-    show::named_word(b"wrap from TCR1", r.state.tcr1);
+    show::named_word(b"wrap from TCR1", r.state.timers.tcr1);
     show::route(b",", from, to);
     run::arrival(r);
 }

@@ -4,14 +4,14 @@ use mathlib.Core.Bool.{true, false}
 use mathlib.Core.List.{List, _∷_, _++_}
 use mathlib.Core.Path.{_≡_, refl, sym, _∙_}
 use lib.ListN.{replicate}
-use Rattle.unit.specs.TheUnit.{resetState, withWords, withReg, withTime, withPins, withChannel, each, all, any, cfsrOf, hsrrOf, cprOf, reg, function, request, withRequest, enabled, status, withStatus, pin, withPin, channel, withInitialised, withLevel, withPhase, word, withWord, exists, channelControl, pinControl, position, target, modCount, nextRate, top, last, cntl0, cntl1, size, motorOf, stepping, reaches, isBound}
+use Rattle.unit.specs.TheUnit.{resetState, withWords, withReg, withTimers, withPins, withChannel, each, all, any, cfsrOf, hsrrOf, cprOf, reg, function, request, withRequest, enabled, status, withStatus, pin, withPin, channel, withInitialised, withSetUp, withLevel, withPhase, withBinding, kindIn, word, withWord, exists, channelControl, pinControl, position, target, modCount, nextRate, top, last, cntl0, cntl1, size, motorOf, stepping, reaches, isBound}
 use Rattle.unit.specs.Stepping.{pinOut, pinsOut, nextCount, turnedOnce, prepared, matchSet, stepped, outcome}
 use Rattle.unit.specs.OneTick.{matchOf, matched, initialise, stepRequest, requestServed, matchServed, served, clocked, tick, afterTicks}
-use Rattle.unit.specs.Gate.{place, isPlace, inList, isFree, isStepper, mayInitialise, otherwiseZero, spanGood, isReady, groupReady, showsPattern, patternGood, rampGood, targetGood, advanceGood, requested, askInitialise, askStep, askChannel, andThen, askChannels, verdictOf, keepsOrFree, askRegister, askWord, askPlace, gate, requestedOne, stored, done}
+use Rattle.unit.specs.Gate.{place, isPlace, inList, isFree, isStepper, isTimed, mayInitialise, otherwiseZero, spanGood, isReady, groupReady, showsPattern, patternGood, rampGood, targetGood, advanceGood, requested, askInitialise, askStep, askChannel, andThen, askChannels, verdictOf, keepsOrFree, askRegister, askWord, askPlace, gate, requestedOne, stored, done}
 use Rattle.unit.specs.Calls.{answeredBy, writeOf, advanceOf, isTaken}
 use Rattle.history.specs.Moments.{actsOf, acts, does, through, Typed, isStepOf}
 use Rattle.words.specs.Choice.{ask}
-use Rattle.words.specs.Clock.{since, due, later}
+use Rattle.words.specs.Clock.{since, due, later, timeBy, onward, ticksACount, ticksUntil, sameTimer}
 use Rattle.words.specs.Field.{field, withField, bitOf}
 use Rattle.words.specs.Rotation.{rotatedRight, rotatedLeft}
 use Rattle.motor.specs.Stepping.{period, ahead, accelerates, choice, test, turn, onRequest, onMatch, beside}
@@ -52,7 +52,7 @@ record Computed : Type 0 where
   pins : (pin (afterTick 17 (acts byItself)) 5 ≡ true) × (pin (afterTick 17 (acts unasked)) 5 ≡ false)
 
 computed : Computed
-unfolding withWords withReg withTime withPins withChannel each all any cfsrOf hsrrOf cprOf reg function request withRequest enabled status withStatus pin withPin channel withInitialised withLevel withPhase word withWord exists channelControl pinControl position target modCount nextRate top last cntl0 cntl1 size motorOf stepping reaches isBound pinOut pinsOut nextCount turnedOnce prepared matchSet stepped outcome matchOf matched initialise stepRequest requestServed matchServed served clocked tick afterTicks place isPlace inList isFree isStepper mayInitialise otherwiseZero spanGood isReady groupReady showsPattern patternGood rampGood targetGood advanceGood requested askInitialise askStep askChannel andThen askChannels verdictOf keepsOrFree askRegister askWord askPlace gate requestedOne stored done answeredBy writeOf advanceOf isTaken actsOf acts does through isStepOf ask since due later field withField bitOf rotatedRight rotatedLeft period ahead accelerates choice test turn onRequest onMatch beside bound inRow gather newFunction newPriority newRequest feltAt feltOf felt liesApart upToTick afterTick row inside atRest byItself withAnother heard unasked allWords lies allApart heardInside turns standing fields leaves alike isAside isTick writesToo isBoth sideBySide
+unfolding withWords withReg withTimers withPins withChannel each all any cfsrOf hsrrOf cprOf reg function request withRequest enabled status withStatus pin withPin channel withInitialised withSetUp withLevel withPhase withBinding kindIn word withWord exists channelControl pinControl position target modCount nextRate top last cntl0 cntl1 size motorOf stepping reaches isBound pinOut pinsOut nextCount turnedOnce prepared matchSet stepped outcome matchOf matched initialise stepRequest requestServed matchServed served clocked tick afterTicks place isPlace inList isFree isStepper isTimed mayInitialise otherwiseZero spanGood isReady groupReady showsPattern patternGood rampGood targetGood advanceGood requested askInitialise askStep askChannel andThen askChannels verdictOf keepsOrFree askRegister askWord askPlace gate requestedOne stored done answeredBy writeOf advanceOf isTaken actsOf acts does through isStepOf ask since due later timeBy onward ticksACount ticksUntil sameTimer field withField bitOf rotatedRight rotatedLeft period ahead accelerates choice test turn onRequest onMatch beside bound inRow gather newFunction newPriority newRequest feltAt feltOf felt liesApart upToTick afterTick row inside atRest byItself withAnother heard unasked allWords lies allApart heardInside turns standing fields leaves alike isAside isTick writesToo isBoth sideBySide
 computed =
     record {
       first-words = refl;

@@ -1,4 +1,4 @@
--- The runs of the trials in leaps: a run looks at each of its ticks, and one in which only TCR1 moves shows nothing and is left out.
+-- The runs of the trials in leaps: a run looks at each of its ticks, and one in which only the timers move shows nothing and is left out.
 use Prim.Native.Nat.{ℕ, zero, suc, _+_, _-_, _≤_, _<_, min}
 use native.Mathlib.Nat.{min-le-left, min-le-right}
 use native.Mathlib.Omega.{arith}
@@ -8,10 +8,11 @@ use mathlib.Core.Path.{_≡_, refl, sym, ap, _∙_}
 use lib.Dec.{ltb, eqb}
 use borrow.Author.Tests.{ltb-true, eq-eqb}
 use Rattle.words.specs.Choice.{pick}
-use Rattle.words.specs.Clock.{later}
+use Rattle.words.specs.declared.Timers.{Timers}
+use Rattle.words.specs.Clock.{onward}
 use Rattle.words.proofs.ChoiceLaws.{not-both}
 use Rattle.unit.specs.declared.State.{State}
-use Rattle.unit.specs.TheUnit.{withTime, channel, word, status, position, nextRate, last, any, stepping, reaches, isBound}
+use Rattle.unit.specs.TheUnit.{withTimers, channel, word, status, position, nextRate, last, any, stepping, reaches, isBound}
 use Rattle.unit.specs.OneTick.{tick, afterTicks}
 use Rattle.unit.specs.Quiet.{quietBelow}
 use Rattle.unit.specs.Calls.{writeOf}
@@ -22,7 +23,7 @@ use Rattle.trials.specs.Trials.{goes, stepTicks, ticked, positions, Tria
 
 -- how many of n ticks may be left out: none where the law of quiet ticks does not speak of the state, or the motor rests
 unfoldable pub quietOf : ℕ → State → ℕ
-quietOf n s = pick (isBound s 4 && ltb (s .tcr1) 65536) (min (quietBelow 16 s) n) 0
+quietOf n s = pick (isBound s 4 && (ltb (s .timers .tcr1) 65536 && ltb (s .timers .tcr2) 65536)) (min (quietBelow 16 s) n) 0
 
 -- A run looks at its ticks one by one: tick k leads from s to t, and the ticks after it give `rest`.
 -- `moved` and `stopped` say what the run gives where the motor has moved, and where it is no longer under way.
@@ -34,32 +35,33 @@ look moved stopped k s t rest =
     ]
 
 -- the next of n + 1 ticks is tick k: q of them are left out, or, where q is 0, one is looked at; `go` does the rest
-abbrev onward : {A : Type 0} → (ℕ → State → State → A → A) → (ℕ → ℕ → State → A) → ℕ → ℕ → State → ℕ → A
-onward eye go n k s zero = let t = tick s in eye k s t (go n (suc k) t)
-onward eye go n k s (suc q) = go (n - q) (k + suc q) (withTime s (later (s .tcr1) (suc q)))
+abbrev goOn : {A : Type 0} → (ℕ → State → State → A → A) → (ℕ → ℕ → State → A) → ℕ → ℕ → State → ℕ → A
+goOn eye go n k s zero = let t = tick s in eye k s t (go n (suc k) t)
+goOn eye go n k s (suc q) = go (n - q) (k + suc q) (withTimers s (onward (suc q) (s .timers)))
 
 -- a run in at most f leaps and looks, and then tick by tick
 unfoldable pub leapt : {A : Type 0} → (ℕ → ℕ → State → A) → (ℕ → State → State → A → A) → ℕ → ℕ → ℕ → State → A
 leapt run eye zero n k s = run n k s
 leapt run eye (suc f) zero k s = run zero k s
-leapt run eye (suc f) (suc n) k s = onward eye (leapt run eye f) n k s (quietOf (suc n) s)
+leapt run eye (suc f) (suc n) k s = goOn eye (leapt run eye f) n k s (quietOf (suc n) s)
 
 -- ---- leaps make the run
 
--- TCR1 is none of what a look looks at
-bound-time : (s : State) (t : ℕ) → isBound (withTime s t) 4 ≡ isBound s 4
-unfolding isBound stepping reaches any channel last word withTime
+-- the timers are none of what a look looks at
+bound-time : (s : State) (t : Timers) → isBound (withTimers s t) 4 ≡ isBound s 4
+unfolding isBound stepping reaches any channel last word withTimers
 bound-time s t = refl
 
-position-time : (s : State) (t : ℕ) → position (withTime s t) 4 ≡ position s 4
-unfolding position word withTime
+position-time : (s : State) (t : Timers) → position (withTimers s t) 4 ≡ position s 4
+unfolding position word withTimers
 position-time s t = refl
 
--- where some may be left out, both tests hold
-allowed : (a b : Bool) (x q : ℕ) → suc q ≤ pick (a && b) x 0 → (a ≡ true) × (b ≡ true) × (suc q ≤ x)
-allowed true true x q h = (refl, refl, h)
-allowed true false x q h = absurd (omega (arith, h))
-allowed false b x q h = absurd (omega (arith, h))
+-- where some may be left out, all tests hold
+allowed : (a b c : Bool) (x q : ℕ) → suc q ≤ pick (a && (b && c)) x 0 → (a ≡ true) × (b ≡ true) × (c ≡ true) × (suc q ≤ x)
+allowed true true true x q h = (refl, refl, refl, h)
+allowed true true false x q h = absurd (omega (arith, h))
+allowed true false c x q h = absurd (omega (arith, h))
+allowed false b c x q h = absurd (omega (arith, h))
 
 both : {A : Type 0} (b c : Bool) (x y z : A) → b ≡ true → c ≡ true → elim b [ true ↦ elim c [ true ↦ x | false ↦ y ] | false ↦ z ] ≡ x
 both true true x y z e f = refl
@@ -76,39 +78,40 @@ passes moved stopped k s t rest b e =
 module _ {A : Type 0} (run : ℕ → ℕ → State → A) (moved stopped : ℕ → State → A → A)
     (begins : (n k : ℕ) (s : State) → run (suc n) k s ≡ look moved stopped k s (tick s) (run n (suc k) (tick s))) where
   -- quiet ticks may be left out of it
-  skips : (q n m k : ℕ) (s : State) → n ≡ q + m → isBound s 4 ≡ true → s .tcr1 < 65536 → q ≤ quietBelow 16 s → run n k s ≡ run m (k + q) (afterTicks q s)
+  skips : (q n m k : ℕ) (s : State) → n ≡ q + m → isBound s 4 ≡ true → s .timers .tcr1 < 65536 → s .timers .tcr2 < 65536 → q ≤ quietBelow 16 s → run n k s ≡ run m (k + q) (afterTicks q s)
   unfolding afterTicks
-  skips zero n m k s e b h l =
+  skips zero n m k s e b h i l =
       let d : n ≡ m = omega (arith, e) in
-      let i : k + 0 ≡ k = omega arith in
-      rw (d, i)
-  skips (suc q) n m k s e b h l =
+      let j : k + 0 ≡ k = omega arith in
+      rw (d, j)
+  skips (suc q) n m k s e b h g l =
       let u = afterTicks q s in
-      let before : u ≡ withTime s (later (s .tcr1) q) = quiet-ticks s q h (omega (arith, l)) in
-      let behind : tick u ≡ withTime s (later (s .tcr1) (suc q)) = quiet-ticks s (suc q) h l in
+      let before : u ≡ withTimers s (onward q (s .timers)) = quiet-ticks s q h g (omega (arith, l)) in
+      let behind : tick u ≡ withTimers s (onward (suc q) (s .timers)) = quiet-ticks s (suc q) h g l in
       let bound : isBound (tick u) 4 ≡ true = rw behind (bound-time s _ ∙ b) in
       let there : position u 4 ≡ position (tick u) 4 = rw (behind, before) (position-time s _ ∙ sym (position-time s _)) in
       let i : suc (k + q) ≡ k + suc q = omega arith in
-      skips q n (suc m) k s (omega (arith, e)) b h (omega (arith, l)) ∙ begins m (k + q) u
+      skips q n (suc m) k s (omega (arith, e)) b h g (omega (arith, l)) ∙ begins m (k + q) u
       ∙ passes moved stopped (k + q) u (tick u) (run m (suc (k + q)) (tick u)) bound there
       ∙ ap (λ (j : ℕ). run m j (tick u)) i
 
-  onward-is : (go : ℕ → ℕ → State → A) (n k : ℕ) (s : State) (q : ℕ) → q ≤ quietOf (suc n) s → ((m j : ℕ) (t : State) → go m j t ≡ run m j t) → onward (look moved stopped) go n k s q ≡ run (suc n) k s
+  next-is : (go : ℕ → ℕ → State → A) (n k : ℕ) (s : State) (q : ℕ) → q ≤ quietOf (suc n) s → ((m j : ℕ) (t : State) → go m j t ≡ run m j t) → goOn (look moved stopped) go n k s q ≡ run (suc n) k s
   unfolding quietOf
-  onward-is go n k s zero l g = ap (λ (r : A). look moved stopped k s (tick s) r) (g n (suc k) (tick s)) ∙ sym (begins n k s)
-  onward-is go n k s (suc q) l g =
-      let a = allowed (isBound s 4) (ltb (s .tcr1) 65536) (min (quietBelow 16 s) (suc n)) q l in
-      let h : s .tcr1 < 65536 = ltb-true (s .tcr1) 65536 (a .1) in
-      let quiet : suc q ≤ quietBelow 16 s = omega (arith, a .2, min-le-left (quietBelow 16 s) (suc n)) in
-      let fits : suc n ≡ suc q + (n - q) = omega (arith, a .2, min-le-right (quietBelow 16 s) (suc n)) in
-      g (n - q) (k + suc q) (withTime s (later (s .tcr1) (suc q)))
-      ∙ sym (skips (suc q) (suc n) (n - q) k s fits (a .0) h quiet ∙ ap (λ (t : State). run (n - q) (k + suc q) t) (quiet-ticks s (suc q) h quiet))
+  next-is go n k s zero l g = ap (λ (r : A). look moved stopped k s (tick s) r) (g n (suc k) (tick s)) ∙ sym (begins n k s)
+  next-is go n k s (suc q) l g =
+      let a = allowed (isBound s 4) (ltb (s .timers .tcr1) 65536) (ltb (s .timers .tcr2) 65536) (min (quietBelow 16 s) (suc n)) q l in
+      let h : s .timers .tcr1 < 65536 = ltb-true (s .timers .tcr1) 65536 (a .1) in
+      let i : s .timers .tcr2 < 65536 = ltb-true (s .timers .tcr2) 65536 (a .2) in
+      let quiet : suc q ≤ quietBelow 16 s = omega (arith, a .3, min-le-left (quietBelow 16 s) (suc n)) in
+      let fits : suc n ≡ suc q + (n - q) = omega (arith, a .3, min-le-right (quietBelow 16 s) (suc n)) in
+      g (n - q) (k + suc q) (withTimers s (onward (suc q) (s .timers)))
+      ∙ sym (skips (suc q) (suc n) (n - q) k s fits (a .0) h i quiet ∙ ap (λ (t : State). run (n - q) (k + suc q) t) (quiet-ticks s (suc q) h i quiet))
 
   pub leapt-is : (f n k : ℕ) (s : State) → leapt run (look moved stopped) f n k s ≡ run n k s
   unfolding leapt
   leapt-is zero n k s = refl
   leapt-is (suc f) zero k s = refl
-  leapt-is (suc f) (suc n) k s = onward-is (leapt run (look moved stopped) f) n k s (quietOf (suc n) s) (omega arith) (leapt-is f)
+  leapt-is (suc f) (suc n) k s = next-is (leapt run (look moved stopped) f) n k s (quietOf (suc n) s) (omega arith) (leapt-is f)
 
 -- ---- the runs of the trials; forty leaps and looks are enough for each
 

@@ -3,3 +3,4 @@ pub mod Trials
 pub mod History
 pub mod Premises
 pub mod Frames
+pub mod Winder

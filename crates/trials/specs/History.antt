@@ -5,7 +5,7 @@ use lib.ListN.{replicate}
 use Rattle.motor.specs.Count.{Enabled, Undisturbed, ticksIn, steps, Arrives}
 use Rattle.unit.specs.Calls.{Call, Read, Write, Advance}
 use Rattle.history.specs.Moments.{acts, see}
-use Rattle.history.specs.Term3.{firstPeriod, Run, atStart, atCount, momentsGone, momentsNow, Cut}
+use Rattle.history.specs.Term3.{longestStep, Run, atStart, atCount, momentsGone, momentsNow, Cut}
 
 -- motors on channels 4, 5 and 8, 9; the second is set going to the left
 unfoldable pub setUp : List Call
@@ -44,5 +44,5 @@ pub record Met : Type 0 where
   pub cut : Cut history
   pub enabled : Enabled (momentsGone history)
   pub undisturbed : Undisturbed (momentsNow history)
-  pub enough : 1 + firstPeriod 4 (atCount history) * (steps (see 4 (atStart history)) (momentsGone history) + 1) ≤ ticksIn (momentsNow history)
+  pub enough : 1 + longestStep 4 (atCount history) * (steps (see 4 (atStart history)) (momentsGone history) + 1) ≤ ticksIn (momentsNow history)
   pub arrives : Arrives (see 4 (atStart history)) (momentsGone history) (momentsNow history)

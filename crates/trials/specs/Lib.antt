@@ -1,3 +1,4 @@
 pub mod Trials
 pub mod History
 pub mod Frames
+pub mod Winder

@@ -1,25 +1,30 @@
 -- The short runs from reset, computed: `rows`.
 use mathlib.Core.Path.{refl}
-use Rattle.unit.specs.TheUnit.{withWords, withReg, withTime, withPins, withChannel, each, all, any, cfsrOf, hsrrOf, cprOf, reg, function, request, withRequest, enabled, status, withStatus, withPin, channel, withInitialised, withLevel, withPhase, word, withWord, exists, channelControl, pinControl, position, target, modCount, nextRate, top, last, cntl0, cntl1, size, motorOf, stepping, reaches, isBound}
+use Rattle.unit.specs.TheUnit.{withWords, withReg, withTimers, withPins, withChannel, each, all, any, cfsrOf, hsrrOf, cprOf, reg, function, request, withRequest, enabled, status, withStatus, withPin, channel, withInitialised, withSetUp, withLevel, withPhase, withBinding, kindIn, word, withWord, exists, channelControl, pinControl, position, target, modCount, nextRate, top, last, cntl0, cntl1, size, motorOf, stepping, reaches, isBound}
 use Rattle.unit.specs.Stepping.{pinOut, pinsOut, nextCount, turnedOnce, prepared, matchSet, stepped, outcome}
 use Rattle.unit.specs.OneTick.{matchOf, matched, initialise, stepRequest, requestServed, matchServed, served, clocked, tick, afterTicks}
-use Rattle.unit.specs.Gate.{place, isPlace, inList, isFree, isStepper, mayInitialise, otherwiseZero, spanGood, isReady, groupReady, showsPattern, patternGood, rampGood, targetGood, advanceGood, requested, askInitialise, askStep, askChannel, andThen, askChannels, verdictOf, keepsOrFree, askRegister, askWord, askPlace, gate, requestedOne, stored, done}
+use Rattle.unit.specs.Gate.{place, isPlace, inList, isFree, isStepper, isTimed, mayInitialise, otherwiseZero, spanGood, isReady, groupReady, showsPattern, patternGood, rampGood, targetGood, advanceGood, requested, askInitialise, askStep, askChannel, andThen, askChannels, verdictOf, keepsOrFree, askRegister, askWord, askPlace, gate, requestedOne, stored, done}
 use Rattle.unit.specs.Calls.{pinWords, answeredBy, writeOf, advanceOf, after, run}
 use Rattle.words.specs.Choice.{ask}
-use Rattle.words.specs.Clock.{since, due, later}
+use Rattle.words.specs.Clock.{since, due, later, timeBy, onward, ticksACount, ticksUntil, sameTimer}
 use Rattle.words.specs.Field.{field, withField, bitOf}
 use Rattle.words.specs.Rotation.{rotatedRight, rotatedLeft}
 use Rattle.motor.specs.Stepping.{period, ahead, accelerates, choice, test, turn, onRequest, onMatch, beside}
 use Rattle.motor.specs.Group.{bound}
 use Rattle.unit.specs.Answers.{verdictNumber}
-use Rattle.unit.specs.Rows.{ready, goes, shows, refuses, firstStep, Rows}
+use Rattle.unit.specs.Pending.{isMatched, isWanted, wanted}
+use Rattle.unit.specs.Quiet.{untilDue, waits, quietAt, quietBelow}
+use Rattle.unit.specs.Rows.{readyBy, ready, goes, winds, shows, refuses, kinds, firstStep, Rows}
 
 pub rows : Rows
-unfolding withWords withReg withTime withPins withChannel each all any cfsrOf hsrrOf cprOf reg function request withRequest enabled status withStatus withPin channel withInitialised withLevel withPhase word withWord exists channelControl pinControl position target modCount nextRate top last cntl0 cntl1 size motorOf stepping reaches isBound pinOut pinsOut nextCount turnedOnce prepared matchSet stepped outcome matchOf matched initialise stepRequest requestServed matchServed served clocked tick afterTicks place isPlace inList isFree isStepper mayInitialise otherwiseZero spanGood isReady groupReady showsPattern patternGood rampGood targetGood advanceGood requested askInitialise askStep askChannel andThen askChannels verdictOf keepsOrFree askRegister askWord askPlace gate requestedOne stored done answeredBy writeOf advanceOf after run ask since due later field withField bitOf rotatedRight rotatedLeft period ahead accelerates choice test turn onRequest onMatch beside bound goes verdictNumber refuses shows ready pinWords firstStep
+unfolding withWords withReg withTimers withPins withChannel each all any cfsrOf hsrrOf cprOf reg function request withRequest enabled status withStatus withPin channel withInitialised withSetUp withLevel withPhase withBinding kindIn word withWord exists channelControl pinControl position target modCount nextRate top last cntl0 cntl1 size motorOf stepping reaches isBound pinOut pinsOut nextCount turnedOnce prepared matchSet stepped outcome matchOf matched initialise stepRequest requestServed matchServed served clocked tick afterTicks place isPlace inList isFree isStepper isTimed mayInitialise otherwiseZero spanGood isReady groupReady showsPattern patternGood rampGood targetGood advanceGood requested askInitialise askStep askChannel andThen askChannels verdictOf keepsOrFree askRegister askWord askPlace gate requestedOne stored done answeredBy writeOf advanceOf after run ask since due later timeBy onward ticksACount ticksUntil sameTimer field withField bitOf rotatedRight rotatedLeft period ahead accelerates choice test turn onRequest onMatch beside bound goes winds kinds verdictNumber refuses shows readyBy ready pinWords firstStep isMatched isWanted wanted untilDue waits quietAt quietBelow
 rows =
     record {
       row-right = (refl, refl, refl, refl, refl, refl);
       row-left = (refl, refl, refl, refl, refl, refl);
+      row-slow = (refl, refl, refl, refl, refl);
+      row-quiet = (refl, refl);
+      row-kinds = (refl, refl, refl, refl);
       row-pins = refl;
       row-beside = (refl, refl, refl);
       row-stored = refl;
@@ -28,7 +33,7 @@ rows =
       row-question-1 = (refl, refl, refl, refl);
       row-question-2 = (refl, refl, refl, refl);
       row-question-3 = refl;
-      row-question-4 = (refl, refl, refl);
+      row-question-4 = (refl, refl, refl, refl, refl);
       row-question-5 = (refl, refl, refl, refl, refl);
       row-question-6 = (refl, refl);
       row-question-7 = (refl, refl, refl, refl);

@@ -1,109 +1,127 @@
--- What a match, a step and a service leave alone, and the clock and the registers in a tick: `time-passes`.
-use Prim.Native.Nat.{ℕ, zero, suc, _+_, _%_, _≤_}
+-- What a match, a step and a service leave alone, and the timers and the registers in a tick: `time-passes`.
+use Prim.Native.Nat.{ℕ, zero, suc, _+_, _/_, _%_, _≤_}
 use native.Mathlib.Omega.{arith}
-use mathlib.Core.Bool.{true}
+use mathlib.Core.Bool.{Bool}
 use mathlib.Core.Logic.{_≢_}
-use mathlib.Core.Path.{_≡_, refl, ap, _∙_}
+use mathlib.Core.Path.{_≡_, refl, sym, ap, _∙_}
 use lib.Dec.{eqb}
 use lib.ListN.{getD}
-use Rattle.words.specs.Clock.{due, later}
-use Rattle.words.specs.Field.{field}
+use Rattle.words.specs.declared.Timers.{Timers}
+use Rattle.words.specs.Clock.{due, later, timeBy, onward}
 use Rattle.words.proofs.ChoiceLaws.{pick-cases}
+use Rattle.words.proofs.ClockLaws.{onward-add}
 use Rattle.motor.specs.declared.Way.{Way}
 use Rattle.motor.specs.declared.Phase.{Phase}
 use Rattle.motor.specs.declared.Phase.the-variants.{Resting, Requested, Armed, Matched}
 use Rattle.motor.specs.declared.Outcome.{Outcome}
 use Rattle.motor.specs.declared.Outcome.the-variants.{Arrived, Step}
 use Rattle.unit.specs.declared.State.{State}
-use Rattle.unit.specs.TheUnit.{cisr, hsrrOf, reg, channelControl, pinControl, withReg, withTime, withPins, withChannel, withWords, each, request, withRequest, enabled, withStatus, withPin, channel, withInitialised, withLevel, withPhase, withWord, modCount, size}
+use Rattle.unit.specs.declared.Channel.{Channel}
+use Rattle.unit.specs.TheUnit.{cisr, hsrrOf, reg, withReg, withTimers, withPins, withChannel, withWords, each, request, withRequest, enabled, withStatus, withPin, channel, withSetUp, withLevel, withPhase, timeFor, withWord, modCount, size}
 use Rattle.unit.specs.Stepping.{pinOut, pinsOut, nextCount, prepared, matchSet, stepped, outcome}
 use Rattle.unit.specs.OneTick.{matchOf, matched, initialise, stepRequest, requestServed, matchServed, served, clocked, tick, afterTicks}
 use Rattle.unit.specs.Passing.{TimePasses}
-use Rattle.unit.proofs.Access.{reg-other, hsrr-range}
+use Rattle.unit.proofs.Access.{channel-keeps, reg-other, hsrr-range}
 
--- ---- a match and a step leave the registers and TCR1
+-- ---- a match and a step leave the registers, the timers and the timer that the record of a group names
 
 pub record Left (s t : State) : Type 0 where
   pub regs : t .regs ≡ s .regs
-  pub time : t .tcr1 ≡ s .tcr1
+  pub time : t .timers ≡ s .timers
+  pub named : (c : ℕ) → (channel t c) .timer ≡ (channel s c) .timer
 
 left-all : (s : State) → Left s s
-left-all s = record { regs = refl; time = refl }
+left-all s = record { regs = refl; time = refl; named = λ c. refl }
 
 left-then : {s t u : State} → Left s t → Left t u → Left s u
-left-then x y = record { regs = y .regs ∙ x .regs; time = y .time ∙ x .time }
+left-then x y = record { regs = y .regs ∙ x .regs; time = y .time ∙ x .time; named = λ c. y .named c ∙ x .named c }
+
+-- what is kept of a channel, with the same timer named
+left-channel : (s : State) (c : ℕ) (x : Channel) → x .timer ≡ (channel s c) .timer → Left s (withChannel s c x)
+unfolding withChannel
+left-channel s c x e = record { regs = refl; time = refl; named = λ j. channel-keeps (λ (y : Channel). y .timer) s c x j e }
 
 pub left-each : (n a : ℕ) (f : ℕ → State → State) → ((i : ℕ) (t : State) → Left t (f i t)) → (s : State) → Left s (each n a f s)
 unfolding each
 left-each zero a f h s = left-all s
 left-each (suc n) a f h s = left-then (left-each n a f h s) (h (a + n) (each n a f s))
 
+left-pin : (s : State) (c : ℕ) (on : Bool) → Left s (withPin s c on)
+unfolding withPin withPins channel
+left-pin s c on = record { regs = refl; time = refl; named = λ j. refl }
+
 left-pins : (s : State) (i : ℕ) → Left s (pinsOut s i)
-unfolding pinsOut pinOut withPin withPins
-left-pins s i = left-each (size s i) i pinOut (λ k t. record { regs = refl; time = refl }) s
+unfolding pinsOut pinOut
+left-pins s i = left-each (size s i) i pinOut (λ k t. left-pin t k _) s
 
 left-matchSet : (s : State) (i : ℕ) (w : Way) (t : ℕ) → Left s (matchSet s i w t)
-unfolding matchSet withPhase withChannel
+unfolding matchSet withPhase
 left-matchSet s i w t =
-    pick-cases (Left s) (due (s .tcr1) t) (λ a. record { regs = (left-pins s i) .regs; time = (left-pins s i) .time }) (λ a. record { regs = refl; time = refl })
+    pick-cases (Left s) (due (timeFor s i) t) (λ a. left-then (left-pins s i) (left-channel (pinsOut s i) i _ refl)) (λ a. left-channel s i _ refl)
+
+left-word : (s : State) (c i v : ℕ) → Left s (withWord s c i v)
+unfolding withWord withWords channel
+left-word s c i v = record { regs = refl; time = refl; named = λ j. refl }
+
+left-prepared : (w : Way) (m j : ℕ) (s : State) → Left s (prepared w m j s)
+unfolding prepared withLevel
+left-prepared w m j s = left-then (left-word s j 0 _) (left-channel _ j _ refl)
 
 pub left-step : (s : State) (i reference : ℕ) (w : Way) (k : ℕ) → Left s (stepped s i reference w k)
-unfolding stepped prepared withLevel withChannel withWord withWords
+unfolding stepped
 left-step s i reference w k =
-    let x = left-each (size s i) i (prepared w (nextCount w (modCount s i))) (λ j t. record { regs = refl; time = refl }) _ in
-    let y = left-matchSet _ i w _ in
-    record { regs = y .regs ∙ x .regs; time = y .time ∙ x .time }
+    let m : ℕ = nextCount w (modCount s i) in
+    left-then (left-then (left-word s i 2 _) (left-word _ i 4 _))
+    (left-then (left-each (size s i) i (prepared w m) (left-prepared w m) _) (left-matchSet _ i w _))
 
 pub left-matched : (i : ℕ) (s : State) → Left s (matched i s)
-unfolding matched matchOf withPhase withChannel
+unfolding matched matchOf withPhase
 left-matched i s = by ((channel s i) .phase)
   where
     by : (p : Phase) → Left s (matchOf p i s)
     by Resting = left-all s
     by Requested = left-all s
-    by (Armed t) = pick-cases (Left s) (due (s .tcr1) t) (λ a. record { regs = (left-pins s i) .regs; time = (left-pins s i) .time }) (λ a. left-all s)
+    by (Armed t) = pick-cases (Left s) (due (timeFor s i) t) (λ a. left-then (left-pins s i) (left-channel (pinsOut s i) i _ refl)) (λ a. left-all s)
     by (Matched t) = left-all s
 
--- ---- a service leaves TCR1, and of the registers all but HSRR and CISR
+-- ---- a service leaves the timers, and of the registers all but HSRR and CISR
 
 record Spared (s t : State) : Type 0 where
-  time : t .tcr1 ≡ s .tcr1
+  time : t .timers ≡ s .timers
+  named : (c : ℕ) → (channel t c) .timer ≡ (channel s c) .timer
   registers : (i : ℕ) → i ≢ 7 → i ≢ 8 → i ≢ 11 → reg t i ≡ reg s i
 
 spared-all : (s : State) → Spared s s
-spared-all s = record { time = refl; registers = λ i a b c. refl }
+spared-all s = record { time = refl; named = λ c. refl; registers = λ i a b c. refl }
 
 spared-then : (s t u : State) → Spared s t → Spared t u → Spared s u
-spared-then s t u x y = record { time = y .time ∙ x .time; registers = λ i a b c. y .registers i a b c ∙ x .registers i a b c }
+spared-then s t u x y = record { time = y .time ∙ x .time; named = λ c. y .named c ∙ x .named c; registers = λ i a b c. y .registers i a b c ∙ x .registers i a b c }
 
 spared-left : (s t : State) → Left s t → Spared s t
 unfolding reg
-spared-left s t x = record { time = x .time; registers = λ i a b c. ap (λ l. getD l i 0) (x .regs) }
+spared-left s t x = record { time = x .time; named = x .named; registers = λ i a b c. ap (λ l. getD l i 0) (x .regs) }
 
 spared-status : (s : State) (c : ℕ) → Spared s (withStatus s c)
-unfolding withStatus withReg
-spared-status s c = record { time = refl; registers = λ i a b d. reg-other s cisr _ i d }
+unfolding withStatus withReg channel
+spared-status s c = record { time = refl; named = λ j. refl; registers = λ i a b d. reg-other s cisr _ i d }
 
 spared-request : (s : State) (c r : ℕ) → Spared s (withRequest s c r)
-unfolding withRequest withReg
+unfolding withRequest withReg channel
 spared-request s c r =
-    record { time = refl; registers = λ i a b d. reg-other s (hsrrOf c) _ i (by i a b) }
+    record { time = refl; named = λ j. refl; registers = λ i a b d. reg-other s (hsrrOf c) _ i (by i a b) }
   where
     by : (i : ℕ) → i ≢ 7 → i ≢ 8 → i ≡ hsrrOf c → ⊥
     by i a b e = let h : (7 ≤ hsrrOf c) × (hsrrOf c ≤ 8) = hsrr-range c in omega arith
 
 spared-outcome : (s : State) (i reference : ℕ) (o : Outcome) → Spared s (outcome s i reference o)
-unfolding outcome withPhase withChannel reg
-spared-outcome s i reference Arrived =
-    let x = spared-status (withPhase s i ((channel s i) .way) Resting) i in
-    record { time = x .time; registers = x .registers }
+unfolding outcome withPhase
+spared-outcome s i reference Arrived = spared-then s _ _ (spared-left s _ (left-channel s i _ refl)) (spared-status _ i)
 spared-outcome s i reference (Step w k) = spared-left s _ (left-step s i reference w k)
 
 spared-initialise : (i : ℕ) (s : State) → Spared s (initialise i s)
-unfolding initialise withInitialised withChannel withWord withWords withPin withPins reg
+unfolding initialise withSetUp
 spared-initialise i s =
-    let x = spared-status (withInitialised (withWord (withPin s i (eqb (field 2 (channelControl s i) 0) 1)) i 0 (pinControl s i)) i true) i in
-    record { time = x .time; registers = x .registers }
+    spared-then s _ _ (spared-left s _ (left-then (left-pin s i _) (left-then (left-word _ i 0 _) (left-channel _ i _ refl)))) (spared-status _ i)
 
 spared-requestServed : (i : ℕ) (s : State) → Spared s (requestServed i s)
 unfolding requestServed stepRequest
@@ -143,15 +161,52 @@ ticked : (s : State) → Spared (clocked s) (tick s)
 unfolding tick
 ticked s = spared-then (clocked s) _ _ (spared-left (clocked s) _ (left-each 16 0 matched left-matched (clocked s))) (spared-services 16 0 _)
 
-one : (s : State) → (tick s) .tcr1 ≡ (s .tcr1 + 1) % 65536
-unfolding clocked withTime later
-one s = (ticked s) .time
+-- the time of the group of c after the next tick
+abbrev pub timeNext : State → ℕ → ℕ
+timeNext s c = timeBy ((channel s c) .timer) (onward 1 (s .timers))
 
-many : (s : State) (n : ℕ) → (afterTicks n s) .tcr1 % 65536 ≡ (s .tcr1 + n) % 65536
+pub tick-timers : (s : State) → (tick s) .timers ≡ onward 1 (s .timers)
+unfolding clocked withTimers
+tick-timers s = (ticked s) .time
+
+-- ---- in numbers
+
+first : (s : State) → (tick s) .timers .tcr1 ≡ (s .timers .tcr1 + 1) % 65536
+unfolding onward later
+first s = ap (λ (t : Timers). t .tcr1) (tick-timers s)
+
+second : (s : State) → (tick s) .timers .tcr2 ≡ (s .timers .tcr2 + (s .timers .tcr1 % 8 + 1) / 8) % 65536
+unfolding onward later
+second s = ap (λ (t : Timers). t .tcr2) (tick-timers s)
+
+-- many ticks move both at once; `onward 0` takes each modulo 65,536
+ticks-timers : (s : State) (n : ℕ) → onward 0 ((afterTicks n s) .timers) ≡ onward n (s .timers)
 unfolding afterTicks
-many s zero = omega arith
-many s (suc n) = ap (λ x. x % 65536) (one (afterTicks n s)) ∙ omega (arith, many s n)
+ticks-timers s zero = refl
+ticks-timers s (suc n) =
+    let t : Timers = (afterTicks n s) .timers in
+    ap (onward 0) (tick-timers (afterTicks n s)) ∙ onward-add 1 0 t ∙ sym (onward-add 0 1 t)
+    ∙ ap (onward 1) (ticks-timers s n) ∙ onward-add n 1 (s .timers) ∙ ap (λ k. onward k (s .timers)) (omega arith)
+
+many : (s : State) (n : ℕ) → (afterTicks n s) .timers .tcr1 % 65536 ≡ (s .timers .tcr1 + n) % 65536
+unfolding onward later
+many s n = omega (arith, ap (λ (t : Timers). t .tcr1) (ticks-timers s n))
+
+eighths : (s : State) (n : ℕ) → (afterTicks n s) .timers .tcr2 % 65536 ≡ (s .timers .tcr2 + (s .timers .tcr1 % 8 + n) / 8) % 65536
+unfolding onward later
+eighths s n =
+    let e : (afterTicks n s) .timers .tcr2 + ((afterTicks n s) .timers .tcr1 % 8 + 0) / 8 ≡ (afterTicks n s) .timers .tcr2 = omega arith in
+    ap (λ k. k % 65536) (sym e) ∙ ap (λ (t : Timers). t .tcr2) (ticks-timers s n)
 
 pub time-passes : TimePasses
-unfolding clocked withTime reg
-time-passes = record { one = one; many = many; registers = λ s. (ticked s) .registers }
+unfolding clocked withTimers reg channel
+time-passes =
+    record {
+      one = first;
+      many = many;
+      rises = λ s e. second s ∙ omega (arith, first s);
+      stands = λ s n. second s ∙ omega (arith, first s);
+      eighths = eighths;
+      registers = λ s. (ticked s) .registers;
+      named = λ s. (ticked s) .named;
+    }

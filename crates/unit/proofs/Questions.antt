@@ -3,14 +3,16 @@ use Prim.Native.Nat.{ℕ, zero, suc, _+_, _-_, _*_, _≤_, _<_}
 use native.Mathlib.Omega.{arith}
 use mathlib.Core.Bool.{Bool, true, false, not, _&&_, _||_}
 use mathlib.Core.Path.{_≡_, refl, ap, sym, _∙_}
-use mathlib.Core.Logic.{_≢_}
+use mathlib.Core.Logic.{_≢_, _⊎_, inl, inr, ⊎-elim}
 use lib.Dec.{eqb, leb, ltb}
 use lib.ListN.{getD}
 use borrow.Author.Tests.{le-leb, lt-ltb, eq-eqb, ne-eqb, eqb-true, eqb-false, leb-true, ltb-true}
 use Rattle.words.specs.Choice.{pick, ask}
+use Rattle.words.specs.declared.Timer.{Timer}
 use Rattle.words.specs.Field.{field, bitOf}
 use Rattle.words.specs.Rotation.{rotatedRight}
 use Rattle.words.proofs.ChoiceLaws.{not-both, and-left, and-right}
+use Rattle.words.proofs.ClockLaws.{same-timer, timer-itself}
 use Rattle.words.proofs.FieldLaws.{field-lt, words-equal}
 use Rattle.words.proofs.RotationLaws.{right-bit, right-fits}
 use Rattle.motor.specs.Stepping.{period}
@@ -18,12 +20,16 @@ use Rattle.unit.specs.declared.State.{State}
 use Rattle.unit.specs.declared.Answer.the-variants.{Taken, Refused}
 use Rattle.unit.specs.declared.Answer.{Answer}
 use Rattle.unit.specs.TheUnit.{all, cfsrOf, hsrrOf, function, request, channel, word, channelControl, pinControl, target, modCount, nextRate, top, last, cntl0, cntl1, size, stepping, isBound}
-use Rattle.unit.specs.Gate.{isFree, isStepper, mayInitialise, otherwiseZero, spanGood, isReady, groupReady, showsPattern, patternGood, rampGood, targetGood, requested, Asked, Yes, No, askInitialise, askStep}
+use Rattle.unit.specs.Gate.{isFree, isStepper, isTimed, mayInitialise, otherwiseZero, spanGood, isReady, groupReady, showsPattern, patternGood, rampGood, targetGood, requested, Asked, Yes, No, askInitialise, askStep}
 use Rattle.unit.specs.Takes.{Free, Stepper, MayInitialise, Member, MayStep, MayRepeat}
-use Rattle.unit.proofs.Tests.{and-both, not-yes, all-yes, or-none}
+use Rattle.unit.proofs.Tests.{and-both, not-yes, all-yes, or-left, or-right, or-none}
 
 not-no : {b : Bool} → b ≡ false → not b ≡ true
 not-no e = rw e refl
+
+pub or-second : (a b : Bool) → (a || b) ≡ true → a ≡ false → b ≡ true
+or-second true b e f = absurd (not-both refl f)
+or-second false b e f = e
 
 pub all-all : (f : ℕ → Bool) (n a : ℕ) → ((p : ℕ) → a ≤ p → p < a + n → f p ≡ true) → all n a f ≡ true
 unfolding all
@@ -42,21 +48,32 @@ answerOf (No n) = Refused n
 
 -- ---- question 4
 
+pub either : (x a b : ℕ) → (eqb x a || eqb x b) ≡ true → (x ≡ a) ⊎ (x ≡ b)
+either x a b e = by (eqb x a) refl
+  where
+    by : (t : Bool) → eqb x a ≡ t → (x ≡ a) ⊎ (x ≡ b)
+    by true t = inl (eqb-true x a t)
+    by false t = inr (eqb-true x b (or-second (eqb x a) (eqb x b) e t))
+
+is-either : (x a b : ℕ) → (x ≡ a) ⊎ (x ≡ b) → (eqb x a || eqb x b) ≡ true
+is-either x a b h = ⊎-elim (λ e. or-left (eqb x a) (eqb x b) (eq-eqb x a e)) (λ e. or-right (eqb x a) (eqb x b) (eq-eqb x b e)) h
+
 initialise-may : (c : ℕ) (s : State) → Free c s → Stepper c s → mayInitialise s c ≡ true → MayInitialise c s
-unfolding mayInitialise channelControl pinControl bitOf
+unfolding mayInitialise isTimed channelControl pinControl bitOf
 initialise-may c s f t e =
-    let q : field 2 (word s c 0) 0 ≡ pick (eqb (field 1 (word s c 1) 15) 1) 1 2 = eqb-true _ _ (and-right (eqb (field 4 (word s c 0) 5) 4) _ e) in
+    let n : ℕ = field 4 (word s c 0) 5 in
+    let q : field 2 (word s c 0) 0 ≡ pick (eqb (field 1 (word s c 1) 15) 1) 1 2 = eqb-true _ _ (and-right (eqb n 4 || eqb n 7) _ e) in
     record {
       free = f;
       stepper = t;
-      fixed = eqb-true _ 4 (and-left (eqb (field 4 (word s c 0) 5) 4) _ e);
+      timed = either (field 4 (word s c 0) 5) 4 7 (and-left (eqb n 4 || eqb n 7) _ e);
       high = λ b. q ∙ ap (λ y. pick y 1 2) (eq-eqb _ 1 b);
       low = λ b. q ∙ ap (λ y. pick y 1 2) (ne-eqb (field 1 (word s c 1) 15) 1 (λ d. omega arith));
     }
 
 initialise-good : (c : ℕ) (s : State) → MayInitialise c s → mayInitialise s c ≡ true
-unfolding mayInitialise channelControl pinControl bitOf
-initialise-good c s x = and-both (eq-eqb _ 4 (x .fixed)) (eq-eqb _ _ (by (eqb (field 1 (word s c 1) 15) 1) refl))
+unfolding mayInitialise isTimed channelControl pinControl bitOf
+initialise-good c s x = and-both (is-either (field 4 (word s c 0) 5) 4 7 (x .timed)) (eq-eqb _ _ (by (eqb (field 1 (word s c 1) 15) 1) refl))
   where
     by : (b : Bool) → eqb (field 1 (word s c 1) 15) 1 ≡ b → field 2 (word s c 0) 0 ≡ pick b 1 2
     by true t = x .high (eqb-true _ 1 t)
@@ -78,10 +95,6 @@ pub yes-asks : (q : Bool) (w : State) → isYes (ask q (No 3) (Yes w)) ≡ q
 unfolding ask isYes
 yes-asks true w = refl
 yes-asks false w = refl
-
-pub or-second : (a b : Bool) → (a || b) ≡ true → a ≡ false → b ≡ true
-or-second true b e f = absurd (not-both refl f)
-or-second false b e f = e
 
 -- ---- each question in numbers
 
@@ -135,25 +148,27 @@ module _ (c : ℕ) (s : State) (words : (k : ℕ) → getD (s .words) k 0 ≤ 0x
   unfolding word
   small j i = words (8 * j + i)
 
-  member-is : (j : ℕ) → isReady s j ≡ true → showsPattern s (modCount s c) j ≡ true → Member (field 4 (word s c 4) 8) j s
+  member-is : (k : Timer) (j : ℕ) → isReady s k j ≡ true → showsPattern s (modCount s c) j ≡ true → Member (field 4 (word s c 4) 8) k j s
   unfolding isReady showsPattern channelControl pinControl modCount
-  member-is j r p =
+  member-is k j r p =
       let e : word s j 0 ≡ rotatedRight (word s j 1) (field 4 (word s c 4) 8) = eqb-true _ _ p in
-      let q : ((channel s j) .initialised && isFree s j) ≡ true = and-right (isStepper s j) _ r in
+      let a : (isStepper s j && ((channel s j) .initialised && isFree s j)) ≡ true = and-left (isStepper s j && ((channel s j) .initialised && isFree s j)) _ r in
+      let q : ((channel s j) .initialised && isFree s j) ≡ true = and-right (isStepper s j) _ a in
       record {
         free = free-is j s (and-right ((channel s j) .initialised) _ q);
-        stepper = stepper-is j s (and-left (isStepper s j) _ r);
+        stepper = stepper-is j s (and-left (isStepper s j) _ a);
         initialised = and-left ((channel s j) .initialised) _ q;
+        kind = same-timer ((channel s j) .kind) k (and-right (isStepper s j && ((channel s j) .initialised && isFree s j)) _ r);
         pattern = λ i l. ap (λ w. field 1 w i) e ∙ right-bit (word s j 1) (field 4 (word s c 4) 8) i (omega (arith, small j 1)) (omega (arith, field-lt 4 (word s c 4) 8)) l;
       }
 
-  is-ready : (m j : ℕ) → Member m j s → isReady s j ≡ true
+  is-ready : (m : ℕ) (k : Timer) (j : ℕ) → Member m k j s → isReady s k j ≡ true
   unfolding isReady
-  is-ready m j x = and-both (is-stepper j s (x .stepper)) (and-both (x .initialised) (is-free j s (x .free)))
+  is-ready m k j x = and-both (and-both (is-stepper j s (x .stepper)) (and-both (x .initialised) (is-free j s (x .free)))) (rw (x .kind) (timer-itself k))
 
-  is-shown : (m j : ℕ) → m < 16 → Member m j s → showsPattern s m j ≡ true
+  is-shown : (m : ℕ) (k : Timer) (j : ℕ) → m < 16 → Member m k j s → showsPattern s m j ≡ true
   unfolding showsPattern channelControl pinControl
-  is-shown m j h x =
+  is-shown m k j h x =
       eq-eqb _ _ (words-equal 16 (word s j 0) (rotatedRight (word s j 1) m) (omega (arith, small j 0)) (right-fits (word s j 1) m (omega (arith, small j 1)) (omega arith))
       (λ i l. x .pattern i l ∙ sym (right-bit (word s j 1) m i (omega (arith, small j 1)) (omega arith) l)))
 
@@ -177,7 +192,7 @@ module _ (c : ℕ) (s : State) (words : (k : ℕ) → getD (s .words) k 0 ≤ 0x
         near = leb-true (field 4 (word s c 5) 0) (c + 7) (and-right (ltb c (field 4 (word s c 5) 0)) _ c5);
         zero4 = zero-is (word s c 4) (and-left (otherwiseZero (word s c 4)) _ a7);
         slow = eqb-true _ 1 (and-right (otherwiseZero (word s c 4)) _ a7);
-        group = λ j a b. member-is j (all-yes (isReady s) j (suc (field 4 (word s c 5) 0) - c) c a (omega arith) q6)
+        group = λ j a b. member-is ((channel s c) .kind) j (all-yes (isReady s ((channel s c) .kind)) j (suc (field 4 (word s c 5) 0) - c) c a (omega arith) q6)
             (all-yes (showsPattern s (modCount s c)) j (suc (field 4 (word s c 5) 0) - c) c a (omega arith) (and-right (otherwiseZero (word s c 4) && eqb (field 4 (word s c 4) 0) 1) _ q7));
         fastest = omega arith;
         slowest = omega arith;
@@ -214,13 +229,13 @@ module _ (c : ℕ) (s : State) (words : (k : ℕ) → getD (s .words) k 0 ≤ 0x
 
     is-group : groupReady s c ≡ true
     unfolding groupReady size last
-    is-group = all-all (isReady s) (suc (field 4 (word s c 5) 0) - c) c (λ j a b. is-ready _ j (x .group j a (omega (arith, x .above))))
+    is-group = all-all (isReady s ((channel s c) .kind)) (suc (field 4 (word s c 5) 0) - c) c (λ j a b. is-ready _ _ j (x .group j a (omega (arith, x .above))))
 
     is-pattern : patternGood s c ≡ true
     unfolding patternGood nextRate modCount size last
     is-pattern =
         and-both (and-both (is-zero (word s c 4) (x .zero4)) (eq-eqb _ 1 (x .slow)))
-        (all-all (showsPattern s (field 4 (word s c 4) 8)) (suc (field 4 (word s c 5) 0) - c) c (λ j a b. is-shown (field 4 (word s c 4) 8) j (field-lt 4 (word s c 4) 8) (x .group j a (omega (arith, x .above)))))
+        (all-all (showsPattern s (field 4 (word s c 4) 8)) (suc (field 4 (word s c 5) 0) - c) c (λ j a b. is-shown (field 4 (word s c 4) 8) ((channel s c) .kind) j (field-lt 4 (word s c 4) 8) (x .group j a (omega (arith, x .above)))))
 
     is-ramp : rampGood (cntl0 s c) (cntl1 s c) (top s c) ≡ true
     unfolding rampGood period cntl0 cntl1 top
@@ -232,7 +247,7 @@ module _ (c : ℕ) (s : State) (words : (k : ℕ) → getD (s .words) k 0 ≤ 0x
     unfolding targetGood target top
     is-target = le-leb (word s c 3) (0xffff - field 4 (word s c 5) 8) (omega (arith, x .target))
 
-    own-member : Member (field 4 (word s c 4) 8) c s
+    own-member : Member (field 4 (word s c 4) 8) ((channel s c) .kind) c s
     own-member = x .group c (omega arith) (omega (arith, x .above))
 
     pub is-step : askStep s c ≡ Yes (requested s c 3)

@@ -4,33 +4,32 @@ use native.Mathlib.Omega.{arith}
 use native.Mathlib.Nat.{eq-or-lt-of-le}
 use mathlib.Core.Bool.{Bool, true, false}
 use mathlib.Core.Path.{_≡_, refl, ap, sym, subst, _∙_}
-use mathlib.Core.Logic.{_≢_, ⊎-elim}
+use mathlib.Core.Logic.{_≢_, _⊎_, ⊎-elim}
 use lib.Dec.{eqb, leb}
 use borrow.Author.Tests.{le-leb, ne-eqb, eqb-true, eqb-false}
 use Rattle.words.specs.Choice.{pick}
 use Rattle.words.specs.Field.{field}
 use Rattle.words.proofs.ChoiceLaws.{pick-cases, not-both, fails, tests}
 use Rattle.words.proofs.FieldLaws.{field-lt}
-use Rattle.motor.specs.declared.Phase.the-variants.{Requested}
 use Rattle.motor.specs.Group.{bound}
 use Rattle.unit.specs.declared.State.{State}
 use Rattle.unit.specs.declared.Channel.{Channel}
 use Rattle.unit.specs.declared.Answered.{Answered}
 use Rattle.unit.specs.declared.Deed.the-variants.{Request}
 use Rattle.unit.specs.declared.Place.the-variants.{AtRegister}
-use Rattle.unit.specs.TheUnit.{withReg, withChannel, each, hsrrOf, reg, function, request, withRequest, channel, withPhase, stepping}
+use Rattle.unit.specs.TheUnit.{withReg, withChannel, each, hsrrOf, reg, function, request, withRequest, channel, withBinding, stepping}
 use Rattle.unit.specs.Gate.{place, requested, Asked, Yes, No, askChannels, verdictOf, askRegister, askPlace, requestedOne, done}
 use Rattle.unit.specs.Calls.{answeredBy, writeOf, isTaken}
 use Rattle.unit.specs.Takes.{Pends, requestAddress}
 use Rattle.unit.proofs.Reset.{Sized}
-use Rattle.unit.proofs.Binding.{binds}
+use Rattle.unit.proofs.Binding.{binds, names, keeps-name}
 use Rattle.unit.proofs.Access.{sized-reg, sized-channel, sized-each, channel-other, hsrr-range, request-same, request-other, function-reg}
 use Rattle.unit.proofs.Readings.{register-place, write-at}
 
 -- ---- one channel's request
 
-sized-bound : (s : State) (c : ℕ) → Sized s → Sized (pick (stepping s c) s (withPhase s c ((channel s c) .way) Requested))
-unfolding withPhase
+sized-bound : (s : State) (c : ℕ) → Sized s → Sized (pick (stepping s c) s (withBinding s c))
+unfolding withBinding
 sized-bound s c z = pick-cases Sized (stepping s c) (λ a. z) (λ a. sized-channel s c _ z)
 
 sized-requested : (c r : ℕ) (s : State) → Sized s → Sized (requested s c r)
@@ -41,43 +40,43 @@ sized-requested c r s z =
 -- what a request of another channel leaves of c
 pub record Same (c : ℕ) (s t : State) : Type 0 where
   pub pending : request t c ≡ request s c
-  pub going : stepping t c ≡ stepping s c
-  pub set-up : (channel t c) .initialised ≡ (channel s c) .initialised
+  pub own : channel t c ≡ channel s c
   pub stepper : function t c ≡ function s c
   pub words : t .words ≡ s .words
 
 same : (c : ℕ) (s : State) → Same c s s
-same c s = record { pending = refl; going = refl; set-up = refl; stepper = refl; words = refl }
+same c s = record { pending = refl; own = refl; stepper = refl; words = refl }
+
+pub going : (c : ℕ) (s t : State) → channel t c ≡ channel s c → stepping t c ≡ stepping s c
+unfolding stepping
+going c s t e = ap (λ (x : Channel). bound (x .phase)) e
 
 then-same : (c : ℕ) (s t u : State) → Same c s t → Same c t u → Same c s u
 then-same c s t u p q =
     record {
       pending = q .pending ∙ p .pending;
-      going = q .going ∙ p .going;
-      set-up = q .set-up ∙ p .set-up;
+      own = q .own ∙ p .own;
       stepper = q .stepper ∙ p .stepper;
       words = q .words ∙ p .words;
     }
 
 module _ (j c : ℕ) (hj : j < 16) (hc : c < 16) (n : c ≢ j) where
   other-stores : (s : State) (r : ℕ) → Sized s → Same c s (withRequest s j r)
-  unfolding stepping withRequest withReg channel
+  unfolding withRequest withReg channel
   other-stores s r z =
       record {
         pending = request-other s j r c hj hc n z;
-        going = refl;
-        set-up = refl;
+        own = refl;
         stepper = function-reg s (hsrrOf j) _ c (omega (arith, hsrr-range j));
         words = refl;
       }
 
-  other-steps : (s : State) (b : Bool) → Sized s → Same c s (withRequest (pick b s (withPhase s j ((channel s j) .way) Requested)) j 3)
-  unfolding stepping request function reg withPhase withChannel
+  other-steps : (s : State) (b : Bool) → Sized s → Same c s (withRequest (pick b s (withBinding s j)) j 3)
+  unfolding request function reg withBinding withChannel
   other-steps s true z = other-stores s 3 z
   other-steps s false z =
-      let t : State = withPhase s j ((channel s j) .way) Requested in
-      let e : channel t c ≡ channel s c = channel-other s j _ c n in
-      let k : Same c s t = record { pending = refl; going = ap (λ (x : Channel). bound (x .phase)) e; set-up = ap (λ (x : Channel). x .initialised) e; stepper = refl; words = refl } in
+      let t : State = withBinding s j in
+      let k : Same c s t = record { pending = refl; own = channel-other s j _ c n; stepper = refl; words = refl } in
       then-same c s t (withRequest t j 3) k (other-stores t 3 (sized-channel s j _ z))
 
   other-same : (s : State) (r : ℕ) → Sized s → Same c s (requested s j r)
@@ -91,20 +90,24 @@ pub record Comes (c r : ℕ) (s t : State) : Type 0 where
   pub asked : 2 ≤ r → request t c ≡ r
   pub left : r < 2 → request t c ≡ request s c
   pub goes : r ≡ 3 → stepping t c ≡ true
-  pub stays : r ≢ 3 → stepping t c ≡ stepping s c
+  pub named : r ≡ 3 → stepping s c ≡ false → (channel t c) .timer ≡ (channel s c) .kind
+  pub again : r ≡ 3 → stepping s c ≡ true → (channel t c) .timer ≡ (channel s c) .timer
+  pub stays : r ≢ 3 → channel t c ≡ channel s c
 
 own-comes : (s : State) (c r : ℕ) → c < 16 → r < 4 → Sized s → Comes c r s (requested s c r)
-unfolding requested stepping channel withRequest withReg
+unfolding requested channel withRequest withReg
 own-comes s c r h l z =
     record {
       asked = λ m. stores m;
       left = λ m. ap (λ t. request t c) (asks-nothing m);
       goes = λ m. subst (λ k. stepping (requested s c k) c ≡ true) (sym m) (binds s c h z);
+      named = λ m n. subst (λ k. (channel (requested s c k) c) .timer ≡ (channel s c) .kind) (sym m) (names s c h z n);
+      again = λ m y. subst (λ k. (channel (requested s c k) c) .timer ≡ (channel s c) .timer) (sym m) (keeps-name s c y);
       stays = λ n. pick-cases Still (eqb r 2) (λ a. refl) (λ a. pick-cases Still (eqb r 3) (λ b. absurd (n (eqb-true r 3 b))) (λ b. refl));
     }
   where
     Still : State → Type 0
-    Still t = stepping t c ≡ stepping s c
+    Still t = channel t c ≡ channel s c
 
     stores : 2 ≤ r → request (requested s c r) c ≡ r
     stores m =
@@ -142,12 +145,26 @@ module _ (v a c : ℕ) (s : State) (z : Sized s) (top : a + 8 ≤ 16) (small : c
           let p : Same c s (after n) = not-yet n (omega arith) (λ k l. omega arith) in
           let q : Comes c (field 2 v (2 * (c % 8))) (after n) (requested (after n) c (field 2 v (2 * (c % 8)))) = own-comes (after n) c _ small (field-lt 2 v (2 * (c % 8))) (sized-after n) in
           subst (λ j. Comes c (field 2 v (2 * (c % 8))) s (requested (after n) j (field 2 v (2 * (j % 8))))) e
-          record { asked = q .asked; left = λ l. q .left l ∙ p .pending; goes = q .goes; stays = λ l. q .stays l ∙ p .going }
+          record {
+            asked = q .asked;
+            left = λ l. q .left l ∙ p .pending;
+            goes = q .goes;
+            named = λ m r. q .named m (going c s (after n) (p .own) ∙ r) ∙ ap (λ (k : Channel). k .kind) (p .own);
+            again = λ m y. q .again m (going c s (after n) (p .own) ∙ y) ∙ ap (λ (k : Channel). k .timer) (p .own);
+            stays = λ l. q .stays l ∙ p .own;
+          }
 
       there : c < a + n → Comes c (field 2 v (2 * (c % 8))) s (after n) → Comes c (field 2 v (2 * (c % 8))) s (requested (after n) (a + n) (field 2 v (2 * ((a + n) % 8))))
       there l p =
           let q : Same c (after n) (requested (after n) (a + n) (field 2 v (2 * ((a + n) % 8)))) = other-same (a + n) c (omega arith) small (omega arith) (after n) _ (sized-after n) in
-          record { asked = λ x. q .pending ∙ p .asked x; left = λ x. q .pending ∙ p .left x; goes = λ x. q .going ∙ p .goes x; stays = λ x. q .going ∙ p .stays x }
+          record {
+            asked = λ x. q .pending ∙ p .asked x;
+            left = λ x. q .pending ∙ p .left x;
+            goes = λ x. going c (after n) _ (q .own) ∙ p .goes x;
+            named = λ x n. ap (λ (k : Channel). k .timer) (q .own) ∙ p .named x n;
+            again = λ x y. ap (λ (k : Channel). k .timer) (q .own) ∙ p .again x y;
+            stays = λ x. q .own ∙ p .stays x;
+          }
 
 -- ---- the write
 
@@ -179,4 +196,15 @@ pends s c v z h t =
     let q : (writeOf s (requestAddress c) v) .state ≡ each 8 (8 * (c / 8)) (requestedOne v) s =
     ap (λ (x : Answered). x .state) e ∙ taken-state (askChannels 8 (8 * (c / 8)) v s) (8 * (c / 8)) v s (ap (λ (x : Answered). isTaken (x .answer)) (sym e) ∙ t) in
     let k : Comes c (field 2 v (2 * (c % 8))) s (each 8 (8 * (c / 8)) (requestedOne v) s) = comes v (8 * (c / 8)) c s z (omega arith) h 8 (omega arith) (omega arith) (omega arith) in
-    subst (Pends c v s) (sym q) record { asked = k .asked; left = k .left; goes = k .goes }
+    subst (Pends c v s) (sym q) record { asked = k .asked; left = k .left; goes = k .goes; named = k .named; keeps = kept k }
+  where
+    w : State
+    w = each 8 (8 * (c / 8)) (requestedOne v) s
+
+    by-three : Comes c (field 2 v (2 * (c % 8))) s w → stepping s c ≡ true → (b : Bool) → eqb (field 2 v (2 * (c % 8))) 3 ≡ b
+        → (channel w c) .timer ≡ (channel s c) .timer
+    by-three k g true e = k .again (eqb-true _ 3 e) g
+    by-three k g false e = ap (λ (y : Channel). y .timer) (k .stays (eqb-false _ 3 e))
+
+    kept : Comes c (field 2 v (2 * (c % 8))) s w → (field 2 v (2 * (c % 8)) ≢ 3) ⊎ (stepping s c ≡ true) → (channel w c) .timer ≡ (channel s c) .timer
+    kept k x = ⊎-elim (λ n. ap (λ (y : Channel). y .timer) (k .stays n)) (λ g. by-three k g (eqb (field 2 v (2 * (c % 8))) 3) refl) x

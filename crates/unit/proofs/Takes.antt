@@ -10,8 +10,10 @@ use lib.Dec.{eqb, leb}
 use lib.ListN.{getD, length}
 use borrow.Author.Tests.{le-leb, eq-eqb, ne-eqb, eqb-true, eqb-false, leb-true}
 use Rattle.words.specs.Choice.{pick, ask}
+use Rattle.words.specs.declared.Timer.{Timer}
 use Rattle.words.specs.Field.{field}
 use Rattle.words.proofs.ChoiceLaws.{not-both, fails, and-left, and-right}
+use Rattle.words.proofs.ClockLaws.{same-timer}
 use Rattle.words.proofs.FieldLaws.{field-lt}
 use Rattle.unit.specs.declared.State.{State}
 use Rattle.unit.specs.declared.Deed.{Deed}
@@ -22,14 +24,14 @@ use Rattle.unit.specs.declared.Answer.the-variants.{Taken, Refused}
 use Rattle.unit.specs.declared.Answer.{Answer}
 use Rattle.unit.specs.declared.Answered.{Answered}
 use Rattle.unit.specs.OneTick.{afterTicks}
-use Rattle.unit.specs.TheUnit.{all, each, cisr, cfsrOf, hsrrOf, reg, function, request, word, target, top, exists, stepping, isBound}
-use Rattle.unit.specs.Gate.{isFree, isStepper, targetGood, advanceGood, requested, Asked, Yes, No, askInitialise, askStep, askChannel, andThen, askChannels, verdictOf, keepsOrFree, askRegister, askWord, askPlace, requestedOne, done}
+use Rattle.unit.specs.TheUnit.{all, each, cisr, cfsrOf, hsrrOf, reg, function, request, channel, word, target, top, last, size, exists, stepping, isBound}
+use Rattle.unit.specs.Gate.{isFree, isStepper, spanGood, isReady, groupReady, targetGood, advanceGood, requested, Asked, Yes, No, askInitialise, askStep, askChannel, andThen, askChannels, verdictOf, keepsOrFree, askRegister, askWord, askPlace, requestedOne, done}
 use Rattle.unit.specs.Calls.{answeredBy, writeOf, isTaken, advanceOf}
 use Rattle.unit.specs.Readings.{registerAddress, wordAddress, Listed, Exists}
 use Rattle.unit.specs.Takes.{Free, Stepper, MayInitialise, MayStep, MayRepeat, AsksOne, Together, requestAddress, StepNumbers, InitialiseNumbers, Takes}
 use Rattle.unit.proofs.Tests.{and-both, all-yes, or-right}
 use Rattle.unit.proofs.Reset.{Sized}
-use Rattle.unit.proofs.Requests.{request-write, pends}
+use Rattle.unit.proofs.Requests.{going, request-write, pends}
 use Rattle.unit.proofs.Together.{above-same, initialise-after, step-after, group-bound}
 use Rattle.unit.proofs.Readings.{register-place, word-place, outside-place, exists-yes, exists-not, write-at}
 use Rattle.unit.proofs.Questions.{all-all, isYes, answerOf, yes-asks, or-second, free-is, is-free, stepper-is, is-stepper, is-still, initialise-asks, is-initialise, step-asks, is-repeat, is-step}
@@ -148,7 +150,7 @@ module _ (i v m : ℕ) (s : State) (z : Sized s) (words : (k : ℕ) → getD (s 
         reached = group-bound i v n s z a b (omega arith) c j q k e (omega arith) (omega arith) h
 
         still : stepping t j ≡ false
-        still = above-same i v n s z a b (omega arith) j (omega arith) (omega arith) .going ∙ is-still j s (y .group j (omega arith) h .free .unbound)
+        still = going j s t (above-same i v n s z a b (omega arith) j (omega arith) (omega arith) .own) ∙ is-still j s (y .group j (omega arith) h .free .unbound)
 
         by : (d : Bool) → eqb (field 2 v (2 * (j % 8))) 2 ≡ d → askChannel (field 2 v (2 * (j % 8))) j t ≡ No 2
         by true d = rw (d, reached) refl
@@ -296,6 +298,17 @@ step-numbers c s g =
       nine = λ a b d e h k l. rw (g, a, b, d, e, h, k, l) refl;
     }
 
+not-alike : (c j : ℕ) (s : State) → c ≤ j → j ≤ field 4 (word s c 5) 0 → (channel s j) .kind ≢ (channel s c) .kind → groupReady s c ≡ false
+unfolding groupReady isReady size last
+not-alike c j s a b n =
+    let k : Timer = (channel s c) .kind in
+    fails (groupReady s c) (λ e. n (same-timer ((channel s j) .kind) k
+    (and-right (isStepper s j && ((channel s j) .initialised && isFree s j)) _ (all-yes (isReady s k) j (suc (field 4 (word s c 5) 0) - c) c a (omega arith) e))))
+
+odd-kind : (c j : ℕ) (s : State) → Free c s → Stepper c s → spanGood s c ≡ true → c ≤ j → j ≤ field 4 (word s c 5) 0
+    → (channel s j) .kind ≢ (channel s c) .kind → answerOf (askStep s c) ≡ Refused 6
+odd-kind c j s f t e a b n = step-numbers c s (is-still c s (f .unbound)) .six (is-free c s f) (is-stepper c s t) e (not-alike c j s a b n)
+
 initialise-numbers : (c : ℕ) (s : State) → InitialiseNumbers c s (answerOf (askInitialise s c))
 unfolding askInitialise ask answerOf
 initialise-numbers c s = record { two = λ a. rw a refl; three = λ a b. rw (a, b) refl; four = λ a b d. rw (a, b, d) refl }
@@ -336,6 +349,7 @@ takes =
       busy = λ s c v x n. request-answer 3 c v x s ∙ busy-number c s n;
       again-number = λ s c v x g e n. request-answer 3 c v x s ∙ again-number c s g e n;
       step-numbers = λ s c v x g. subst (StepNumbers c s) (sym (request-answer 3 c v x s)) (step-numbers c s g);
+      odd-kind = λ s c v j x f t e a b n. request-answer 3 c v x s ∙ odd-kind c j s f t e a b n;
       initialise-numbers = λ s c v x. subst (InitialiseNumbers c s) (sym (request-answer 2 c v x s)) (initialise-numbers c s);
       advance-number = advance-number;
     }

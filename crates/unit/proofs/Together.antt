@@ -7,6 +7,7 @@ use mathlib.Core.Logic.{_⊎_, inl, inr, ⊎-elim}
 use lib.Dec.{leb, ltb}
 use lib.ListN.{getD}
 use borrow.Author.Tests.{le-leb, leb-true}
+use Rattle.words.specs.declared.Timer.{Timer}
 use Rattle.words.specs.Field.{field}
 use Rattle.words.proofs.ChoiceLaws.{not-both, holds, fails, tests, and-left, and-right}
 use Rattle.words.proofs.FieldLaws.{field-lt}
@@ -16,7 +17,7 @@ use Rattle.unit.specs.Gate.{requestedOne}
 use Rattle.unit.specs.Takes.{Free, Stepper, MayInitialise, Member, MayStep, MayRepeat, Together}
 use Rattle.unit.proofs.Reset.{Sized}
 use Rattle.unit.proofs.Tests.{Found, and-both, or-none, or-right, any-yes, any-some}
-use Rattle.unit.proofs.Requests.{Same, not-yet, comes}
+use Rattle.unit.proofs.Requests.{Same, going, not-yet, comes}
 
 -- ---- from one state to another of the same words
 
@@ -27,12 +28,13 @@ module _ (s t : State) (words : t .words ≡ s .words) where
 
   moved-initialise : (c : ℕ) → Free c t → Stepper c t → MayInitialise c s → MayInitialise c t
   moved-initialise c f q x =
-      record { free = f; stepper = q; fixed = rw (same-word c 0) (x .fixed); high = rw (same-word c 0, same-word c 1) (x .high); low = rw (same-word c 0, same-word c 1) (x .low) }
+      record { free = f; stepper = q; timed = rw (same-word c 0) (x .timed); high = rw (same-word c 0, same-word c 1) (x .high); low = rw (same-word c 0, same-word c 1) (x .low) }
 
-  pub moved-member : (m j : ℕ) → Free j t → Stepper j t → (channel t j) .initialised ≡ true → Member m j s → Member m j t
-  moved-member m j f q b x = record { free = f; stepper = q; initialised = b; pattern = λ i l. rw (same-word j 0, same-word j 1) (x .pattern i l) }
+  pub moved-member : (m : ℕ) (k : Timer) (j : ℕ) → Free j t → Stepper j t → channel t j ≡ channel s j → Member m k j s → Member m k j t
+  moved-member m k j f q e x =
+      record { free = f; stepper = q; initialised = rw e (x .initialised); kind = rw e (x .kind); pattern = λ i l. rw (same-word j 0, same-word j 1) (x .pattern i l) }
 
-  pub moved-step : (c : ℕ) → ((j : ℕ) → c ≤ j → j ≤ field 4 (word s c 5) 0 → Member (field 4 (word s c 4) 8) j t) → MayStep c s → MayStep c t
+  pub moved-step : (c : ℕ) → ((j : ℕ) → c ≤ j → j ≤ field 4 (word s c 5) 0 → Member (field 4 (word s c 4) 8) ((channel t c) .kind) j t) → MayStep c s → MayStep c t
   moved-step c g x =
       record {
         zero5 = rw (same-word c 5) (x .zero5);
@@ -65,16 +67,16 @@ module _ (i v n : ℕ) (s : State) (z : Sized s) (a : 7 ≤ i) (b : i ≤ 8) (fe
   not-asked p h f = by (ltb p first) refl (ltb p (first + n)) refl
     where
       by : (x : Bool) → ltb p first ≡ x → (y : Bool) → ltb p (first + n) ≡ y → stepping t p ≡ stepping s p
-      by true x y d = not-yet v first p s z (omega arith) h n few (λ k q w. omega (arith, tests)) .going
-      by false x false d = above-same p (omega (arith, tests)) h .going
-      by false x true d = comes v first p s z (omega arith) h n few (omega (arith, tests)) (omega (arith, tests)) .stays (f (omega (arith, tests)) (omega (arith, tests)))
+      by true x y d = going p s t (not-yet v first p s z (omega arith) h n few (λ k q w. omega (arith, tests)) .own)
+      by false x false d = going p s t (above-same p (omega (arith, tests)) h .own)
+      by false x true d = going p s t (comes v first p s z (omega arith) h n few (omega (arith, tests)) (omega (arith, tests)) .stays (f (omega (arith, tests)) (omega (arith, tests))))
 
   -- the next channel, where it is asked and may be so with those below
   module _ (m : ℕ) (x : Together i v m s) (next : first + n < m) (l : n < 8) where
     module _ (asked : 2 ≤ field 2 v (2 * ((first + n) % 8))) where
       still-unbound : (j : ℕ) → first + n ≤ j → j < 16 → isBound s j ≡ false → isBound t j ≡ false
       unfolding isBound reaches last
-      still-unbound j k h u = rw (above-same j k h .going, or-none (stepping s j) _ u .0) (fails (any 16 0 (reaches t j)) (λ e. found (any-some (reaches t j) 16 0 e)))
+      still-unbound j k h u = rw (going j s t (above-same j k h .own), or-none (stepping s j) _ u .0) (fails (any 16 0 (reaches t j)) (λ e. found (any-some (reaches t j) 16 0 e)))
         where
           found : Found (reaches t j) 16 0 → ⊥
           found f =
@@ -107,15 +109,16 @@ module _ (i v n : ℕ) (s : State) (z : Sized s) (a : 7 ≤ i) (b : i ≤ 8) (fe
         own : Same (first + n) s t
         own = above-same (first + n) (omega arith) (omega arith)
 
-        member : (q j : ℕ) → first + n ≤ j → j < 16 → Member q j s → Member q j t
-        member q j k h y =
-            moved-member s t (own .words) q j (still-free (omega arith) j k h (y .free)) (still-stepper j k h (y .stepper)) (above-same j k h .set-up ∙ y .initialised) y
+        member : (q : ℕ) (w : Timer) (j : ℕ) → first + n ≤ j → j < 16 → Member q w j s → Member q w j t
+        member q w j k h y = moved-member s t (own .words) q w j (still-free (omega arith) j k h (y .free)) (still-stepper j k h (y .stepper)) (above-same j k h .own) y
 
         steps : MayStep (first + n) s → MayStep (first + n) t
-        steps y = moved-step s t (own .words) (first + n) (λ j k h. member _ j k (omega (arith, field-lt 4 (word s (first + n) 5) 0)) (y .group j k h)) y
+        steps y =
+            moved-step s t (own .words) (first + n)
+            (λ j k h. member _ _ j k (omega (arith, field-lt 4 (word s (first + n) 5) 0)) (rw (own .own) (y .group j k h))) y
 
         repeats : MayRepeat (first + n) s → MayRepeat (first + n) t
-        repeats y = record { bound = own .going ∙ y .bound; none = own .pending ∙ y .none; stepper = still-stepper (first + n) (omega arith) (omega arith) (y .stepper) }
+        repeats y = record { bound = going (first + n) s t (own .own) ∙ y .bound; none = own .pending ∙ y .none; stepper = still-stepper (first + n) (omega arith) (omega arith) (y .stepper) }
 
   -- the group of a channel asked to step is bound
   pub group-bound : (c j : ℕ) → c / 8 ≡ 8 - i → c < first + n → field 2 v (2 * (c % 8)) ≡ 3 → first + n ≤ j → j < 16 → j ≤ field 4 (word s c 5) 0 → isBound t j ≡ true

@@ -1,5 +1,5 @@
--- Short runs of the definitions from reset, each with what it must show: a move right and left, tick by tick, each number of the gate, and
--- each priority. The figures of the two moves come from a model written apart from the definitions.
+-- Short runs of the definitions from reset, each with what it must show: a move right and left, tick by tick, one by TCR2, each number of
+-- the gate, and each priority. The figures of the two moves come from a model written apart from the definitions.
 use Prim.Native.Nat.{ℕ}
 use mathlib.Core.Bool.{true, false}
 use mathlib.Core.List.{List, [], _∷_, _++_}
@@ -8,21 +8,30 @@ use lib.ListN.{replicate}
 use Rattle.motor.specs.declared.Way.the-variants.{Right}
 use Rattle.motor.specs.declared.Phase.the-variants.{Armed, Matched}
 use Rattle.unit.specs.declared.State.{State}
-use Rattle.unit.specs.TheUnit.{resetState, cisr, withTime, withPins, reg, withRequest, channel, withPhase, word, withWord, position, target}
+use Rattle.unit.specs.TheUnit.{resetState, cisr, withTimers, withPins, reg, withRequest, channel, withPhase, word, withWord, position, target}
 use Rattle.unit.specs.OneTick.{matched, tick, afterTicks}
+use Rattle.unit.specs.Quiet.{quietBelow}
 use Rattle.unit.specs.Gate.{advanceGood, gate}
 use Rattle.unit.specs.Calls.{pinWords, Call, Write, Advance, writeOf, run}
 use Rattle.unit.specs.Answers.{verdictNumber}
 
--- channels 4 and 5 initialised with the patterns $8421 and $1234, P(1) = 6, N = 3, and the motor at rest
-unfoldable pub ready : ℕ → ℕ → List Call
-ready here there =
-    Write 0xe10 0x00dd ∷ Write 0xe1e 0x0500 ∷ Write 0xf42 0x8421 ∷ Write 0xf40 0x0081 ∷ Write 0xf52 0x1234 ∷ Write 0xf50 0x0082
+-- channels 4 and 5 initialised with these CHANNEL_CONTROL and the patterns $8421 and $1234, P(1) = 6, N = 3, and the motor at rest
+unfoldable pub readyBy : ℕ → ℕ → ℕ → ℕ → List Call
+readyBy first second here there =
+    Write 0xe10 0x00dd ∷ Write 0xe1e 0x0500 ∷ Write 0xf42 0x8421 ∷ Write 0xf40 first ∷ Write 0xf52 0x1234 ∷ Write 0xf50 second
     ∷ Write 0xe1a 0x0a00 ∷ Advance 1 (0 ∷ []) ∷ Write 0xe20 0
     ∷ Write 0xf44 here ∷ Write 0xf46 there ∷ Write 0xf48 0x0001 ∷ Write 0xf4a 0x0305 ∷ Write 0xf54 1 ∷ Write 0xf56 8 ∷ []
 
+-- by TCR1
+unfoldable pub ready : ℕ → ℕ → List Call
+ready here there = readyBy 0x0081 0x0082 here there
+
 unfoldable pub goes : ℕ → ℕ → State
 goes here there = run resetState (ready here there ++ (Write 0xe1a 0x0300 ∷ []))
+
+-- by TCR2, with P = 2 counts at every rate
+unfoldable pub winds : ℕ → ℕ → State
+winds here there = run resetState (readyBy 0x00e1 0x00e2 here there ++ (Write 0xf54 0 ∷ Write 0xf56 2 ∷ Write 0xe1a 0x0300 ∷ []))
 
 -- the pin word, position, word 4, the two CHANNEL_CONTROL words and CISR
 unfoldable pub shows : State → List ℕ
@@ -31,6 +40,10 @@ shows s = s .pins ∷ position s 4 ∷ word s 4 4 ∷ word s 4 0 ∷ word s 5 0 
 -- after these writes to a motor at rest, the number of a write, 0 for taken
 unfoldable pub refuses : List Call → ℕ → ℕ → ℕ
 refuses xs a v = verdictNumber (gate (run resetState (ready 0 3 ++ xs)) a v)
+
+-- the number of a step request of channels initialised with these CHANNEL_CONTROL
+unfoldable pub kinds : ℕ → ℕ → ℕ
+kinds first second = verdictNumber (gate (run resetState (readyBy first second 0 3)) 0xe1a 0x0300)
 
 -- how far the first tick moves the motor with this word in CPR1, in which bits 9 and 8 are its priority
 unfoldable pub firstStep : ℕ → ℕ
@@ -51,6 +64,16 @@ pub record Rows : Type 0 where
       × (shows (afterTicks 12 (goes 7 3)) ≡ 0x0 ∷ 4 ∷ 3329 ∷ 0x210c ∷ 0x91a0 ∷ 0x0 ∷ [])
       × (shows (afterTicks 23 (goes 7 3)) ≡ 0x20 ∷ 3 ∷ 3073 ∷ 0x4218 ∷ 0x2341 ∷ 0x0 ∷ [])
       × (shows (afterTicks 24 (goes 7 3)) ≡ 0x0 ∷ 3 ∷ 3073 ∷ 0x4218 ∷ 0x2341 ∷ 0x10 ∷ [])
+  -- 0 to 4 by TCR2, set going in tick 1 since reset: served in tick 2 at count 0; TCR2 comes to 2 in tick 16, and in tick 64 to 8
+  pub row-slow : (shows (afterTicks 1 (winds 0 4)) ≡ 0x10 ∷ 1 ∷ 258 ∷ 0xc210 ∷ 0x91a ∷ 0x0 ∷ [])
+      × (shows (afterTicks 14 (winds 0 4)) ≡ 0x10 ∷ 1 ∷ 258 ∷ 0xc210 ∷ 0x91a ∷ 0x0 ∷ [])
+      × (shows (afterTicks 15 (winds 0 4)) ≡ 0x10 ∷ 2 ∷ 513 ∷ 0x6108 ∷ 0x48d ∷ 0x0 ∷ [])
+      × (shows (afterTicks 62 (winds 0 4)) ≡ 0x20 ∷ 4 ∷ 1025 ∷ 0x1842 ∷ 0x4123 ∷ 0x0 ∷ [])
+      × (shows (afterTicks 63 (winds 0 4)) ≡ 0x0 ∷ 4 ∷ 1025 ∷ 0x1842 ∷ 0x4123 ∷ 0x10 ∷ [])
+  -- how far an advance may go at once: to the match, which is 6 counts of TCR1 or 2 of TCR2 after the first step
+  pub row-quiet : (quietBelow 16 (afterTicks 1 (goes 0 4)) ≡ 5) × (quietBelow 16 (afterTicks 1 (winds 0 4)) ≡ 13)
+  -- both channels by one timer, and one by each
+  pub row-kinds : (kinds 0x0081 0x0082 ≡ 0) × (kinds 0x00e1 0x00e2 ≡ 0) × (kinds 0x0081 0x00e2 ≡ 6) × (kinds 0x00e1 0x0082 ≡ 6)
   -- the pin word of each tick is its own
   pub row-pins : pinWords 2 (afterTicks 22 (goes 0 4)) ≡ 0x20 ∷ 0x0 ∷ []
   -- a step and its match leave the pins and patterns of the channels beside the group
@@ -59,8 +82,8 @@ pub record Rows : Type 0 where
   -- a step request that no write has stored, of a group at rest: the test follows (N14)
   pub row-stored : shows (tick (withRequest (run resetState (ready 0 4)) 4 3)) ≡ 0x10 ∷ 1 ∷ 258 ∷ 0xc210 ∷ 0x91a ∷ 0x0 ∷ []
   -- a match beyond the wrap of TCR1 is not due before it
-  pub row-wrap : ((channel (matched 4 (withTime (withPhase resetState 4 Right (Armed 3)) 0xfffe)) 4) .phase ≡ Armed 3)
-      × ((channel (matched 4 (withTime (withPhase resetState 4 Right (Armed 3)) 3)) 4) .phase ≡ Matched 3)
+  pub row-wrap : ((channel (matched 4 (withTimers (withPhase resetState 4 Right (Armed 3)) record { tcr1 = 0xfffe; tcr2 = 0 })) 4) .phase ≡ Armed 3)
+      × ((channel (matched 4 (withTimers (withPhase resetState 4 Right (Armed 3)) record { tcr1 = 3; tcr2 = 0 })) 4) .phase ≡ Matched 3)
   -- a target put behind a fast motor: it slows down first
   pub row-behind : position (afterTicks 4 ((writeOf (afterTicks 12 (goes 0 9)) 0xf46 1) .state)) 4 ≡ 4
   -- question 1: an odd address, and one that is not in the list
@@ -72,6 +95,7 @@ pub record Rows : Type 0 where
   pub row-question-3 : refuses (Write 0xe10 0x00dc ∷ []) 0xe1a 0x0300 ≡ 3
   -- question 4: CHANNEL_CONTROL for an initialise
   pub row-question-4 : (refuses (Write 0xf40 0x0082 ∷ []) 0xe1a 0x0200 ≡ 4) × (refuses (Write 0xf40 0x00a1 ∷ []) 0xe1a 0x0200 ≡ 4)
+      × (refuses (Write 0xf40 0x00c1 ∷ []) 0xe1a 0x0200 ≡ 4) × (refuses (Write 0xf40 0x00e1 ∷ []) 0xe1a 0x0200 ≡ 0)
       × (refuses (Write 0xf40 0xfe9d ∷ []) 0xe1a 0x0200 ≡ 0)
   -- question 5: the span, and N from 1 to 14
   pub row-question-5 : (refuses (Write 0xf4a 0x0304 ∷ []) 0xe1a 0x0300 ≡ 5) × (refuses (Write 0xf4a 0x030c ∷ []) 0xe1a 0x0300 ≡ 5)
@@ -98,4 +122,4 @@ pub record Rows : Type 0 where
   pub row-word : (refuses [] 0xe1a 0x0b00 ≡ 2) × (refuses (Write 0xf50 0x0082 ∷ Write 0xe1a 0x0800 ∷ []) 0xe1a 0x0300 ≡ 6) × (refuses [] 0xe1a 0x0000 ≡ 0)
   -- a target taken under way is the one in memory, and a refused write changes nothing
   pub row-writes : (target ((writeOf (goes 0 3) 0xf46 1) .state) 4 ≡ 1) × (word ((writeOf (goes 0 3) 0xf4a 0) .state) 4 5 ≡ 0x0305)
-      × (((writeOf (goes 0 3) 0xf4a 0) .state) .tcr1 ≡ 1)
+      × (((writeOf (goes 0 3) 0xf4a 0) .state) .timers .tcr1 ≡ 1)

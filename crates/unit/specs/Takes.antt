@@ -5,6 +5,7 @@ use mathlib.Core.Path.{_≡_}
 use mathlib.Core.Logic.{_≢_, _⊎_}
 use mathlib.Core.List.{List}
 use lib.ListN.{getD, length}
+use Rattle.words.specs.declared.Timer.{Timer}
 use Rattle.words.specs.Field.{field}
 use Rattle.unit.specs.declared.State.{State}
 use Rattle.unit.specs.TheUnit.{Whole, reg, channel, word, target, top, cntl0, cntl1, stepping, isBound}
@@ -31,15 +32,17 @@ Stepper j s = field 4 (reg s (1 + (3 - j / 4))) (4 * (j % 4)) ≡ 13
 pub record MayInitialise (c : ℕ) (s : State) : Type 0 where
   pub free : Free c s
   pub stepper : Stepper c s
-  pub fixed : field 4 (word s c 0) 5 ≡ 4
+  pub timed : (field 4 (word s c 0) 5 ≡ 4) ⊎ (field 4 (word s c 0) 5 ≡ 7)
   pub high : field 1 (word s c 1) 15 ≡ 1 → field 2 (word s c 0) 0 ≡ 1
   pub low : field 1 (word s c 1) 15 ≡ 0 → field 2 (word s c 0) 0 ≡ 2
 
--- a channel of a group whose MOD_CNT is m: CHANNEL_CONTROL is PIN_CONTROL rotated right by m places, bit by bit
-pub record Member (m j : ℕ) (s : State) : Type 0 where
+-- a channel of a group whose MOD_CNT is m and whose primary is of the kind k: of that kind too, and CHANNEL_CONTROL is PIN_CONTROL rotated
+-- right by m places, bit by bit
+pub record Member (m : ℕ) (k : Timer) (j : ℕ) (s : State) : Type 0 where
   pub free : Free j s
   pub stepper : Stepper j s
   pub initialised : (channel s j) .initialised ≡ true
+  pub kind : (channel s j) .kind ≡ k
   pub pattern : (i : ℕ) → i < 16 → field 1 (word s j 0) i ≡ field 1 (word s j 1) ((i + m) % 16)
 
 -- questions 2 to 9; of word 5 N is bits 11 to 8 and the last channel bits 3 to 0, of word 4 MOD_CNT and the next rate are
@@ -51,7 +54,7 @@ pub record MayStep (c : ℕ) (s : State) : Type 0 where
   pub near : field 4 (word s c 5) 0 ≤ c + 7
   pub zero4 : (field 4 (word s c 4) 12 ≡ 0) × (field 4 (word s c 4) 4 ≡ 0)
   pub slow : field 4 (word s c 4) 0 ≡ 1
-  pub group : (j : ℕ) → c ≤ j → j ≤ field 4 (word s c 5) 0 → Member (field 4 (word s c 4) 8) j s
+  pub group : (j : ℕ) → c ≤ j → j ≤ field 4 (word s c 5) 0 → Member (field 4 (word s c 4) 8) ((channel s c) .kind) j s
   -- P(N) is at least 1, P(1) at most $7FFF
   pub fastest : word s (suc c) 2 * (1 + field 4 (word s c 5) 8) < word s (suc c) 3
   pub slowest : word s (suc c) 3 ≤ 0x7fff + word s (suc c) 2 * 2
@@ -81,12 +84,14 @@ pub record Together (i v m : ℕ) (s : State) : Type 0 where
 abbrev pub requestAddress : ℕ → ℕ
 requestAddress c = 0xe18 + 2 * (1 - c / 8)
 
--- what a taken word v of an HSRR register leaves of channel c, from s to t: pending is what it asks, or where that is 00 or 01 what was; and
--- a step request binds
+-- what a taken word v of an HSRR register leaves of channel c, from s to t: pending is what it asks, or where that is 00 or 01 what was; a
+-- step request binds. Where it sets the motor going the record of the group names the timer of the primary's kind, else it stays.
 pub record Pends (c v : ℕ) (s t : State) : Type 0 where
   pub asked : 2 ≤ field 2 v (2 * (c % 8)) → pending c t ≡ field 2 v (2 * (c % 8))
   pub left : field 2 v (2 * (c % 8)) < 2 → pending c t ≡ pending c s
   pub goes : field 2 v (2 * (c % 8)) ≡ 3 → stepping t c ≡ true
+  pub named : field 2 v (2 * (c % 8)) ≡ 3 → stepping s c ≡ false → (channel t c) .timer ≡ (channel s c) .kind
+  pub keeps : (field 2 v (2 * (c % 8)) ≢ 3) ⊎ (stepping s c ≡ true) → (channel t c) .timer ≡ (channel s c) .timer
 
 -- the number of the first no: a step request of a motor at rest, and an initialise
 pub record StepNumbers (c : ℕ) (s : State) (answer : Answer) : Type 0 where
@@ -117,6 +122,9 @@ pub record Takes : Type 0 where
       → isTaken ((writeOf s (requestAddress c) v) .answer) ≡ true → MayStep c s
   pub steps : (s : State) (c v : ℕ) → AsksOne 3 c v → ((k : ℕ) → getD (s .words) k 0 ≤ 0xffff)
       → MayStep c s → isTaken ((writeOf s (requestAddress c) v) .answer) ≡ true
+  -- a group of both kinds gets 6, whichever channel is of another kind than the primary. Paper 02, #106
+  pub odd-kind : (s : State) (c v j : ℕ) → AsksOne 3 c v → Free c s → Stepper c s → spanGood s c ≡ true → c ≤ j → j ≤ field 4 (word s c 5) 0
+      → (channel s j) .kind ≢ (channel s c) .kind → (writeOf s (requestAddress c) v) .answer ≡ Refused 6
   -- of one that is under way, without a pending request, it is just where the function is 13
   pub again : (s : State) (c v : ℕ) → AsksOne 3 c v → stepping s c ≡ true → pending c s ≡ 0
       → isTaken ((writeOf s (requestAddress c) v) .answer) ≡ true → Stepper c s

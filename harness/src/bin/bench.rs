@@ -17,39 +17,53 @@ struct Case {
     what: &'static str,
     /// Channels of a motor and its period; none at rest.
     motors: Option<(usize, u16)>,
+    /// By TCR2.
+    slow: bool,
     /// Requests and targets in every tick.
     busy: bool,
 }
 
-const CASES: [Case; 5] = [
+const CASES: [Case; 6] = [
     Case {
         name: "rest",
         what: "all at rest",
         motors: None,
+        slow: false,
         busy: false,
     },
     Case {
         name: "four-400",
         what: "4 motors of 4 channels, period 400",
         motors: Some((4, 400)),
+        slow: false,
         busy: false,
     },
     Case {
         name: "four-20",
         what: "4 motors of 4 channels, period 20",
         motors: Some((4, 20)),
+        slow: false,
+        busy: false,
+    },
+    Case {
+        name: "slow-50",
+        what: "4 motors of 4 channels by TCR2, period 50",
+        motors: Some((4, 50)),
+        slow: true,
         busy: false,
     },
     Case {
         name: "eight-1",
         what: "8 motors of 2 channels, period 1",
         motors: Some((2, 1)),
+        slow: false,
         busy: false,
     },
     Case {
         name: "busy",
         what: "4 motors, requests and targets in every tick",
         motors: Some((4, 20)),
+        slow: false,
         busy: true,
     },
 ];
@@ -63,13 +77,14 @@ fn word_address(c: usize, w: usize) -> u16 {
 }
 
 /// Motors side by side over all channels, on their way from the middle.
-fn set_up(unit: &mut dyn Unit, size: usize, period: u16) {
+fn set_up(unit: &mut dyn Unit, size: usize, period: u16, slow: bool) {
+    let control = if slow { 0x00E1 } else { 0x0081 };
     for i in 0..4 {
         put(unit, CFSR0 + 2 * i, 0xDDDD);
     }
     for c in 0..16 {
         put(unit, word_address(c, PIN_CONTROL), 0xCCCC);
-        put(unit, word_address(c, CHANNEL_CONTROL), 0x0081);
+        put(unit, word_address(c, CHANNEL_CONTROL), control);
     }
     for i in 0..2 {
         put(unit, CPR0 + 2 * i, 0xFFFF);
@@ -116,7 +131,7 @@ impl Case {
     fn begin(&self, unit: &mut dyn Unit) {
         unit.reset();
         if let Some((size, period)) = self.motors {
-            set_up(unit, size, period);
+            set_up(unit, size, period, self.slow);
         }
     }
 

@@ -10,6 +10,7 @@ use Rattle.unit.proofs.Passing.{time-passes}
 use Rattle.unit.proofs.Quiet.{quiet-ticks}
 use Rattle.unit.proofs.Computed.{rows}
 use Rattle.history.proofs.Calls.{calls-are}
+use Rattle.history.proofs.Timers.{timers-count}
 use Rattle.history.proofs.Leaves.{writes-leave}
 use Rattle.history.proofs.Always.{always}
 use Rattle.history.proofs.Term3.{term-3}
@@ -18,6 +19,7 @@ use Rattle.isolation.proofs.Runs.{isolated}
 use Rattle.trials.proofs.Trials.{trials}
 use Rattle.trials.proofs.History.{met}
 use Rattle.trials.proofs.Frames.{frames, across}
+use Rattle.trials.proofs.Winder.{winds}
 use Rattle.text.proofs.LengthLaws.{decimal-short}
 use Rattle.parse.proofs.LineLaws as parse
 use Rattle.script.proofs.LengthLaws as script
@@ -116,6 +118,7 @@ returns c =
       settings = settings;
       rate-count = rate-count;
       two-frames = two-frames;
+      two-timers = record { count = timers-count; winds = winds };
     }
 
 pub delivered-spec : {M : Type 1} → statement M

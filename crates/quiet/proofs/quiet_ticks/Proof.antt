@@ -1,5 +1,7 @@
 use borrow.Author.Needs.{needs}
-use native.Mathlib.Nat.{zero-min}
+use native.Mathlib.Nat.{zero-min, min-le-right}
+use mir.Syntax.{w16}
+use mir.Val.{Fits}
 use native.Mathlib.Numerals.{add-one}
 use native.Mathlib.Omega.{arith}
 use mathlib.Core.Path.{_≡_, refl, sym, _∙_}
@@ -50,8 +52,8 @@ returns : tie.Need-returns Inv-loop μ-loop
 unfolding quietAt wanted channel request reg
 returns c =
     let b = c .before in
-    let l = b .before .before .before .before .before .loop in
-    let a = b .before .before .before .before .before .before .args in
+    let l = b .before .before .before .before .before .before .loop in
+    let a = b .before .before .before .before .before .before .before .args in
     none-left (a .t1) (l .c + 1) (a .room) (b .lesser .result) (omega arith)
     (next (a .t1) (l .c) (l .q) _ _ (l .inv .1) (b .before .quiet-in .ensures) (b .lesser .ensures)) (c .if1 .taken)
 
@@ -65,12 +67,18 @@ loop-again : tie.Need-loop-again Inv-loop μ-loop
 unfolding quietAt wanted channel request reg
 loop-again c =
     let b = c .before in
-    let l = b .before .before .before .before .before .loop in
-    let a = b .before .before .before .before .before .before .args in
+    let l = b .before .before .before .before .before .before .loop in
+    let a = b .before .before .before .before .before .before .before .args in
     (omega arith, next (a .t1) (l .c) (l .q) _ _ (l .inv .1) (b .before .quiet-in .ensures) (b .lesser .ensures))
 
 lesser-requires-2 : tie.Need-lesser-requires-2 Inv-loop μ-loop
 lesser-requires-2 c κs = search needs
+
+cast-result : tie.Need-cast-result Inv-loop μ-loop
+cast-result c =
+    let h : c .lesser2 .result ≤ c .before .before .before .args .room = rw (c .lesser2 .ensures) (min-le-right _ _) in
+    let f : Fits w16 (c .before .before .before .args .room) = search needs in
+    omega (arith, h, f)
 
 returns-2 : tie.Need-returns-2 Inv-loop μ-loop
 returns-2 c =
@@ -95,4 +103,5 @@ quiet-ticks-spec =
     loop-less
     loop-again
     lesser-requires-2
+    cast-result
     returns-2)

@@ -7,14 +7,15 @@ use lib.Dec.{leb}
 use lib.ListN.{length}
 use Prim.Native.Nat.{_-_, _≤_}
 use Rattle.words.specs.Choice.{pick}
+use Rattle.words.specs.Clock.{timeBy}
 use Rattle.words.proofs.ChoiceLaws.{takes-first, takes-second}
-use Rattle.unit.specs.TheUnit.{each, enabled, request, reg, channel, motorOf}
+use Rattle.unit.specs.TheUnit.{each, enabled, request, reg, channel, timeFor, motorOf}
 use Rattle.unit.specs.Stepping.{outcome}
 use Rattle.unit.specs.OneTick.{served}
 use Rattle.access.proofs.Loops.{each-next}
 use Rattle.channel.specs.Service.{isTested, reference, decided}
 use Rattle.tick.specs.Parts.{requestDone}
-use Rattle.tick.proofs.PartLaws.{test-parts, same-way, all-served-long, first, then, served-by}
+use Rattle.tick.proofs.PartLaws.{test-parts, same-way, same-timer, all-served-long, first, then, served-by}
 use Rattle.tick.proofs.serve_all.Statement.{statement}
 use Rattle.tick.proofs.serve_all.Tie as tie
 
@@ -55,11 +56,14 @@ is-tested-requires c κs = search needs
 element-copy-out-status : tie.Need-element-copy-out-status Inv-loop μ-loop
 element-copy-out-status c = search needs
 
+time-by-requires : tie.Need-time-by-requires Inv-loop μ-loop
+time-by-requires c κs = search needs
+
 tested-requires : tie.Need-tested-requires Inv-loop μ-loop
 tested-requires c κs =
-    let j = c .before .before .before .before .before .if1 in
-    let l = c .before .before .before .before .before .before .before .before .before .before .before .before .before .before .before .loop in
-    let a = c .before .before .before .before .before .before .before .before .before .before .before .before .before .before .before .before .args in
+    let j = c .before .before .before .before .before .before .before .if1 in
+    let l = c .before .before .before .before .before .before .before .before .before .before .before .before .before .before .before .before .before .loop in
+    let a = c .before .before .before .before .before .before .before .before .before .before .before .before .before .before .before .before .before .before .args in
     let long : length (a .t1 .words) ≡ 128 = search needs in
     (omega arith, ⊎-elim {C = length (j .s .words) ≡ 128} (λ w. rw (w .2) (search needs)) (λ w. rw (w .1, l .inv .1) (all-served-long _ _ ∙ long)) (j .came))
 
@@ -85,10 +89,10 @@ loop-again c =
     (λ w. takes-first (pick (on .result) (leb 2 (r .result)) false) _ t (requestDone (l .s) (l .c) (r .result)) (l .s) (c .before .before .before .is-asked .ensures) (w .0 .taken) (w .2 ∙ w .1 .ensures))
     (λ w. takes-second (pick (on .result) (leb 2 (r .result)) false) _ t (requestDone (l .s) (l .c) (r .result)) (l .s) (c .before .before .before .is-asked .ensures) (w .0 .left) (w .1))
     (c .before .before .if1 .came) in
-    let after = outcome t (l .c) (reference p (t .tcr1)) (decided p (motorOf t (l .c))) in
+    let after = outcome t (l .c) (reference p (timeFor t (l .c))) (decided p (motorOf t (l .c))) in
     let test : c .if2 .s ≡ then (on .result) (r .result) p (l .c) t =
     ⊎-elim {C = c .if2 .s ≡ then (on .result) (r .result) p (l .c) t}
-    (λ w. takes-first (isTested (on .result) (r .result) p) _ _ after t (c .before .is-tested .ensures) (w .0 .taken) (w .6 ∙ rw (w .4 .ensures .1, w .4 .ensures .0) (test-parts t (l .c) (channel (l .s) (l .c)) (same-way (on .result) (r .result) (l .c) (l .s) t request))))
+    (λ w. takes-first (isTested (on .result) (r .result) p) _ _ after t (c .before .is-tested .ensures) (w .0 .taken) (w .8 ∙ rw (w .6 .ensures .1, w .6 .ensures .0) (test-parts t (l .c) (channel (l .s) (l .c)) (w .4 .result) (same-way (on .result) (r .result) (l .c) (l .s) t request) (w .4 .ensures ∙ ap (λ k. timeBy k (t .timers)) (same-timer (on .result) (r .result) (l .c) (l .s) t request)))))
     (λ w. takes-second (isTested (on .result) (r .result) p) _ _ after t (c .before .is-tested .ensures) (w .0 .left) (w .1))
     (c .if2 .came) in
     (omega arith, served-by (l .s) t (c .if2 .s) (l .c) (on .result) (r .result) (on .ensures) (r .ensures) request test ∙ (ap (served (l .c)) (l .inv .1) ∙ sym (each-next (l .c) 0 (l .c) served _ (omega arith))))
@@ -114,6 +118,7 @@ serve-all-spec =
     done-requires
     is-tested-requires
     element-copy-out-status
+    time-by-requires
     tested-requires
     element-write-s
     add-c

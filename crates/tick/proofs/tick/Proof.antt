@@ -1,13 +1,13 @@
 use borrow.Author.Needs.{needs}
 use mathlib.Core.Path.{refl, sym, _∙_}
 use Rattle.unit.specs.OneTick.{tick, clocked}
-use Rattle.unit.specs.TheUnit.{withTime, reg, channel}
+use Rattle.unit.specs.TheUnit.{withTimers, reg, channel}
 use Rattle.tick.proofs.Calm.{calm-rests}
 use Rattle.tick.proofs.tick.Statement.{statement}
 use Rattle.tick.proofs.tick.Tie as tie
 
-later-requires : tie.Need-later-requires
-later-requires c κs = search needs
+onward-requires : tie.Need-onward-requires
+onward-requires c κs = search needs
 
 element-copy-out-is-calm : tie.Need-element-copy-out-is-calm
 element-copy-out-is-calm c = search needs
@@ -19,10 +19,10 @@ is-calm-requires : tie.Need-is-calm-requires
 is-calm-requires c κs = search needs
 
 returns : tie.Need-returns
-unfolding tick clocked withTime reg channel
+unfolding tick clocked withTimers reg channel
 returns c =
     let k = c .before .is-calm .ensures (c .if1 .taken) in
-    sym (calm-rests _ (k .0) (k .1) (k .2)) ∙ rw (c .before .before .before .before .before .later .ensures) refl
+    sym (calm-rests _ (k .0) (k .1) (k .2)) ∙ rw (c .before .before .before .before .before .onward .ensures) refl
 
 match-all-requires : tie.Need-match-all-requires
 match-all-requires c κs = search needs
@@ -31,14 +31,14 @@ serve-all-requires : tie.Need-serve-all-requires
 serve-all-requires c κs = search needs
 
 returns-2 : tie.Need-returns-2
-unfolding tick clocked withTime
-returns-2 c = rw (c .serve-all .ensures, c .before .match-all .ensures, c .before .before .before .before .before .before .before .later .ensures) refl
+unfolding tick clocked withTimers
+returns-2 c = rw (c .serve-all .ensures, c .before .match-all .ensures, c .before .before .before .before .before .before .before .onward .ensures) refl
 
 pub tick-spec : {M : Type 1} → statement M
 tick-spec =
     tie.close
     (tie.spec
-    later-requires
+    onward-requires
     element-copy-out-is-calm
     element-copy-out-is-calm-2
     is-calm-requires

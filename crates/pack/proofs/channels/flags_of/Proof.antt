@@ -33,10 +33,29 @@ mul-result-3 c = search needs
 add-result-3 : tie.Need-add-result-3
 add-result-3 c = search needs
 
+timer-number-requires : tie.Need-timer-number-requires
+timer-number-requires c κs = search needs
+
+mul-result-4 : tie.Need-mul-result-4
+mul-result-4 c = search needs
+
+add-result-4 : tie.Need-add-result-4
+add-result-4 c = search needs
+
+timer-number-requires-2 : tie.Need-timer-number-requires-2
+timer-number-requires-2 c κs = search needs
+
+mul-result-5 : tie.Need-mul-result-5
+mul-result-5 c = search needs
+
+add-result-5 : tie.Need-add-result-5
+add-result-5 c = search needs
+
 returns : tie.Need-returns
 unfolding flagsOf
 returns c =
-    rw (c .phase-number .ensures .0, c .before .way-number .ensures .0, c .before .before .bit-number2 .ensures .0, c .before .before .before .bit-number .ensures .0)
+    let b = c .before .before in
+    rw (c .timer-number2 .ensures .0, c .before .timer-number .ensures .0, b .phase-number .ensures .0, b .before .way-number .ensures .0, b .before .before .bit-number2 .ensures .0, b .before .before .before .bit-number .ensures .0)
 
 pub flags-of-spec : {M : Type 1} → statement M
 flags-of-spec =
@@ -52,4 +71,10 @@ flags-of-spec =
     phase-number-requires
     mul-result-3
     add-result-3
+    timer-number-requires
+    mul-result-4
+    add-result-4
+    timer-number-requires-2
+    mul-result-5
+    add-result-5
     returns)

@@ -10,10 +10,10 @@ use Rattle.pack.proofs.laying.lay_flags.Statement.{statement}
 use Rattle.pack.proofs.laying.lay_flags.Tie as tie
 
 abbrev Inv-loop : tie.InvT-loop
-Inv-loop s₀ st i₀ s i = (142 ≤ i) × (i ≤ 158) × (length s ≡ 174) × (take i s ≡ tabulate i (packedWord st))
+Inv-loop s₀ st i₀ s i = (143 ≤ i) × (i ≤ 159) × (length s ≡ 175) × (take i s ≡ tabulate i (packedWord st))
 
 abbrev μ-loop : tie.MeasureT-loop
-μ-loop s₀ st i₀ s i = 158 - i
+μ-loop s₀ st i₀ s i = 159 - i
 
 loop-holds : tie.Need-loop-holds Inv-loop μ-loop
 loop-holds c = (omega arith, omega arith, c .before .pre .0, c .before .pre .1)
@@ -54,8 +54,8 @@ same-length c = search needs
 returns : tie.Need-returns Inv-loop μ-loop
 returns c =
     let l = c .before .loop in
-    let e : l .i ≡ 158 = omega arith in
-    let p : take 158 (l .s) ≡ tabulate 158 (packedWord (c .before .before .before .args .t1)) = rw (← e) (l .inv .3) in
+    let e : l .i ≡ 159 = omega arith in
+    let p : take 159 (l .s) ≡ tabulate 159 (packedWord (c .before .before .before .args .t1)) = rw (← e) (l .inv .3) in
     (l .inv .2, p)
 
 pub lay-flags-spec : {M : Type 1} → statement M

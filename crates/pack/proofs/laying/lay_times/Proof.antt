@@ -10,10 +10,10 @@ use Rattle.pack.proofs.laying.lay_times.Statement.{statement}
 use Rattle.pack.proofs.laying.lay_times.Tie as tie
 
 abbrev Inv-loop : tie.InvT-loop
-Inv-loop s₀ st i₀ s i = (158 ≤ i) × (i ≤ 174) × (length s ≡ 174) × (take i s ≡ tabulate i (packedWord st))
+Inv-loop s₀ st i₀ s i = (159 ≤ i) × (i ≤ 175) × (length s ≡ 175) × (take i s ≡ tabulate i (packedWord st))
 
 abbrev μ-loop : tie.MeasureT-loop
-μ-loop s₀ st i₀ s i = 174 - i
+μ-loop s₀ st i₀ s i = 175 - i
 
 loop-holds : tie.Need-loop-holds Inv-loop μ-loop
 loop-holds c = (omega arith, omega arith, c .before .pre .0, c .before .pre .1)
@@ -55,8 +55,8 @@ returns : tie.Need-returns Inv-loop μ-loop
 unfolding packed
 returns c =
     let l = c .before .loop in
-    let e : l .i ≡ 174 = omega arith in
-    whole _ (l .s) 174 (l .inv .2) (rw (← e) (l .inv .3))
+    let e : l .i ≡ 175 = omega arith in
+    whole _ (l .s) 175 (l .inv .2) (rw (← e) (l .inv .3))
 
 pub lay-times-spec : {M : Type 1} → statement M
 lay-times-spec =

@@ -18,9 +18,14 @@ shared-slice-read-t6 c = search needs
 shared-slice-read-t8 : tie.Need-shared-slice-read-t8
 shared-slice-read-t8 c = search needs
 
+shared-slice-read-t11 : tie.Need-shared-slice-read-t11
+shared-slice-read-t11 c = search needs
+
 returns : tie.Need-returns
 unfolding stateIn
-returns c = rw (c .before .before .channels-in .ensures, c .before .before .before .regs-in .ensures, c .before .before .before .before .words-in .ensures)
+returns c =
+    let b = c .before .before .before in
+    rw (b .channels-in .ensures, b .before .regs-in .ensures, b .before .before .words-in .ensures)
 
 pub state-in-spec : {M : Type 1} → statement M
 state-in-spec =
@@ -31,4 +36,5 @@ state-in-spec =
     channels-in-requires
     shared-slice-read-t6
     shared-slice-read-t8
+    shared-slice-read-t11
     returns)

@@ -1,10 +1,10 @@
 use borrow.Author.Needs.{needs}
-use Rattle.unit.specs.TheUnit.{withTime}
+use Rattle.unit.specs.TheUnit.{withTimers}
 use Rattle.tpu.proofs.ticks.at_time.Statement.{statement}
 use Rattle.tpu.proofs.ticks.at_time.Tie as tie
 
 returns : tie.Need-returns
-unfolding withTime
+unfolding withTimers
 returns c = search needs
 
 pub at-time-spec : {M : Type 1} → statement M
