@@ -20,7 +20,7 @@ extern "C" {
 #endif
 
 /* How many words hold a state. */
-#define TPU_SM_STATE_WORDS 175
+#define TPU_SM_STATE_WORDS 179
 
 /* The same number, as the archive has it. */
 uint32_t tpu_sm_state_words(void);
@@ -68,6 +68,8 @@ uint16_t tpu_sm_interrupt_line(const uint16_t *state, size_t state_words);
 #define TPU_SM_TARGET_TOO_FAR 9
 /* more than TPU_SM_MAX_TICKS ticks, or more than the list has words */
 #define TPU_SM_ADVANCE_TOO_LONG 10
+/* the step at rate N would take less than 128 counts of the group's timer: asked after TPU_SM_BAD_RAMP */
+#define TPU_SM_TOO_QUICK 14
 /* the state was not lent as TPU_SM_STATE_WORDS words */
 #define TPU_SM_WRONG_LENGTH 100
 
@@ -99,12 +101,18 @@ uint16_t tpu_sm_interrupt_line(const uint16_t *state, size_t state_words);
 #define TPU_SM_REQUEST(channel, request) ((uint16_t)((unsigned)(request) << 2u * ((unsigned)(channel) % 8u)))
 #define TPU_SM_PRIORITY(channel, priority) ((uint16_t)((unsigned)(priority) << 2u * ((unsigned)(channel) % 8u)))
 
-/* the function Stepper Motor; the two requests; the three priorities act alike, and 0 stops the services */
+/* the function Stepper Motor; the two requests; the priorities, of which 0 stops the services. One channel is served a tick:
+   of seven ticks four look for a high one first, two for a middle one and one for a low one, and a tick that finds none serves
+   the highest priority with one waiting. A channel whose priority stays waits for 112 ticks at most. */
 #define TPU_SM_STEPPER_MOTOR 13
 #define TPU_SM_INITIALISE 2
 #define TPU_SM_STEP 3
 #define TPU_SM_DISABLED 0
-#define TPU_SM_ENABLED 1
+#define TPU_SM_LOW 1
+#define TPU_SM_MIDDLE 2
+#define TPU_SM_HIGH 3
+/* where it does not matter which */
+#define TPU_SM_ENABLED TPU_SM_LOW
 
 /* ---- parameter words; the words are 0 to 5, and 0 to 7 for channels 14 and 15 */
 

@@ -53,7 +53,7 @@ static void set_up_channel(uint16_t channel, uint16_t pattern)
 static void set_up(void)
 {
     put(TPU_SM_CFSR(PRIMARY), TPU_SM_FUNCTION(PRIMARY, TPU_SM_STEPPER_MOTOR) | TPU_SM_FUNCTION(SECOND, TPU_SM_STEPPER_MOTOR));
-    put(TPU_SM_CPR(PRIMARY), TPU_SM_PRIORITY(PRIMARY, TPU_SM_ENABLED) | TPU_SM_PRIORITY(SECOND, TPU_SM_ENABLED));
+    put(TPU_SM_CPR(PRIMARY), TPU_SM_PRIORITY(PRIMARY, TPU_SM_HIGH) | TPU_SM_PRIORITY(SECOND, TPU_SM_HIGH));
     set_up_channel(PRIMARY, 0xCCCC);
     set_up_channel(SECOND, 0x3333);
     put(TPU_SM_HSRR(PRIMARY), TPU_SM_REQUEST(PRIMARY, TPU_SM_INITIALISE) | TPU_SM_REQUEST(SECOND, TPU_SM_INITIALISE));
@@ -78,7 +78,8 @@ int main(void)
     tpu_sm_reset(state, TPU_SM_STATE_WORDS);
     puts("initialise channels 4 and 5");
     set_up();
-    pass(0, 1);
+    /* A tick for each channel. */
+    pass(0, 2);
     printf("CISR %04X\n", get(TPU_SM_CISR));
     put(TPU_SM_CISR, 0);
 

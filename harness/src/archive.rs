@@ -85,7 +85,7 @@ impl Archive {
     }
 
     pub fn state(&self) -> &[u16; WORDS] {
-        self.words[GUARD..].first_chunk().expect("175 words")
+        self.words[GUARD..].first_chunk().expect("179 words")
     }
 
     fn state_mut(&mut self) -> &mut [u16] {

@@ -3,7 +3,7 @@
 
 use crate::plain::*;
 use crate::random::Random;
-use crate::unit::{Phase, Unit};
+use crate::unit::{Phase, Snapshot, Unit};
 use std::collections::VecDeque;
 
 /// One call. An advance has its ticks and the length of the lent list.
@@ -94,6 +94,8 @@ const PATTERNS: [u16; 18] = [
     0xCCCC, 0x3333, 0x9999, 0x6666, 0xE0E0, 0x0E0E, 0x8383, 0x3838, 0xF00F, 0xAAAA, 0x8000, 0x0001,
     0xFFFF, 0x0000, 0x8081, 0x0082, 0x80E1, 0x00E2,
 ];
+/// By TCR1, high and low.
+const BY_ITSELF: [u16; 2] = [0x8081, 0x0082];
 
 const OFF: u16 = 0;
 const INITIALISE: u16 = 2;
@@ -129,6 +131,10 @@ pub struct Maker {
     random: Random,
     unit: Plain,
     motors: Vec<Motor>,
+    /// Channels that are initialised again as soon as they were served.
+    busy: Vec<usize>,
+    /// There are such channels in the whole list.
+    crowded: bool,
     planned: VecDeque<Call>,
     lent: Lent,
 }
@@ -140,9 +146,16 @@ impl Maker {
         Maker::over(motors, random)
     }
 
-    /// Other plans for the motors of the list of a seed.
+    /// Other plans for the motors of the list of a seed, on a crowded board.
     pub fn beside(seed: u64, other: u64) -> Maker {
-        Maker::over(layout(&mut Random::new(seed)), Random::new(other))
+        let mut maker = Maker::over(layout(&mut Random::new(seed)), Random::new(other));
+        maker.crowded = true;
+        maker
+    }
+
+    /// Goes on from another state than its calls have led to.
+    pub fn look_at(&mut self, state: &Snapshot) {
+        self.unit = Plain::from_snapshot(state);
     }
 
     fn over(motors: Vec<Motor>, random: Random) -> Maker {
@@ -150,15 +163,16 @@ impl Maker {
             random,
             unit: Plain::default(),
             motors,
+            busy: Vec::new(),
+            crowded: false,
             planned: VecDeque::new(),
             lent: Lent::default(),
         };
+        maker.crowded = maker.random.one_in(4);
         if maker.random.one_in(8) {
             maker.reads();
         }
-        for address in [CPR0, CPR0 + 2] {
-            maker.write(address, 0xFFFF);
-        }
+        maker.new_levels();
         maker
     }
 
@@ -174,6 +188,13 @@ impl Maker {
 
     fn plan(&mut self) {
         let motor = self.random.pick(&self.motors);
+        let others = if self.crowded { 10 } else { 3 };
+        if !self.busy.is_empty() && !self.random.one_in(others) {
+            return self.keep_busy();
+        }
+        if self.busy.is_empty() && self.crowded {
+            return self.crowd();
+        }
         match self.random.below(1000) {
             0..=299 => self.pass_time(),
             300..=469 => self.start(motor),
@@ -184,15 +205,16 @@ impl Maker {
             655..=684 => self.change(motor),
             685..=719 => self.pass_time(),
             720..=759 => self.priorities(),
-            760..=789 => self.short_pause(motor),
-            790..=792 => self.long_pause(motor),
+            760..=787 => self.short_pause(motor),
+            788..=792 => self.long_pause(motor),
             793..=849 => self.spoil(motor),
             850..=874 => self.many_requests(),
             875..=914 => self.reads(),
             915..=929 => self.status(),
             930..=944 => self.functions(),
-            945..=959 => self.strange_address(),
-            960..=984 => self.stray_word(),
+            945..=954 => self.strange_address(),
+            955..=962 => self.crowd(),
+            963..=984 => self.stray_word(),
             _ => self.odd_advance(),
         }
     }
@@ -334,11 +356,7 @@ impl Maker {
     /// A pattern and a right control word for it, with its free bits random.
     /// Some patterns have the bits of the other timer.
     fn set_pattern(&mut self, c: usize, slow: bool) {
-        let of_other = if slow {
-            [0x8081, 0x0082]
-        } else {
-            [0x80E1, 0x00E2]
-        };
+        let of_other = if slow { BY_ITSELF } else { [0x80E1, 0x00E2] };
         let pattern = match self.random.below(5) {
             0 => self.random.word(),
             1 => self.random.pick(&of_other),
@@ -379,27 +397,41 @@ impl Maker {
         }
         for address in [CPR0, CPR0 + 2] {
             let now = self.now(address);
-            if now != 0xFFFF {
+            if (0..8).any(|c| now >> (2 * c) & 3 == OFF) {
                 self.write(address, now | 0x5555);
             }
         }
-        let n = self.random.between(1, 3);
+        self.let_serve(motor);
+    }
+
+    /// As many ticks as the motor has channels, or more; seldom fewer.
+    fn let_serve(&mut self, motor: Motor) {
+        let channels = (motor.last - motor.first + 1) as u32;
+        let others = self.busy.len() as u32;
+        let n = match self.random.below(8) {
+            0 => self.random.between(1, channels),
+            1 => channels + self.random.below(20),
+            2 if others > 0 => 7 * (channels + others),
+            _ => channels + others,
+        };
         self.advance(n);
     }
 
-    /// N, the last channel and a ramp: mostly quick, seldom very slow.
+    /// N, the last channel and a ramp: mostly quick, seldom very slow, often
+    /// about as quick as may be.
     fn new_ramp(&mut self, motor: Motor) {
         let n = self.random.between(1, 14);
         let (per_rate, shortest) = match self.random.below(16) {
-            0..=2 => (0, self.random.between(1, 4)),
-            3..=10 => (self.random.below(5), self.random.between(1, 12)),
-            11..=13 => (self.random.below(41), self.random.between(1, 150)),
+            0..=2 => (0, self.random.between(128, 131)),
+            3..=8 => (self.random.below(5), self.random.between(128, 140)),
+            9..=10 => (self.random.below(5), self.random.between(100, 130)),
+            11..=13 => (self.random.below(41), self.random.between(128, 250)),
             14 => (self.random.below(200), self.random.between(1, 1500)),
             _ => {
                 let per_rate = self.random.below(2300);
                 (
                     per_rate,
-                    self.random.between(1, 0x7FFF - per_rate * (n - 1)),
+                    self.random.between(128, 0x7FFF - per_rate * (n - 1)),
                 )
             }
         };
@@ -464,13 +496,13 @@ impl Maker {
         if (10..4096).contains(&to_wrap) && self.random.one_in(2) {
             return self.go_over(to_wrap);
         }
-        if self.random.one_in(1500) {
+        if self.random.one_in(900) {
             return self.go_over_slowly();
         }
         let n = match self.random.below(100) {
-            0..=54 => self.random.between(1, 8),
-            55..=79 => self.random.between(1, 200),
-            80..=94 => self.random.between(200, 1200),
+            0..=34 => self.random.between(1, 8),
+            35..=69 => self.random.between(1, 200),
+            70..=94 => self.random.between(200, 1200),
             95 => self.random.between(1200, 4096),
             _ => return self.advance_far(4096),
         };
@@ -541,7 +573,9 @@ impl Maker {
             if self.random.one_in(6) {
                 self.request(motor.first, STEP);
             }
-            let n = self.random.pick(&[1, 1, 2, 3, 5, 8, 13, 40]);
+            let n = self
+                .random
+                .pick(&[1, 2, 5, 13, 40, 100, 128, 129, 200, 400]);
             self.advance(n);
         }
     }
@@ -583,9 +617,76 @@ impl Maker {
                 self.write(half_address(CPR0, c), word);
             }
             _ => {
-                let word = self.random.pick(&[0xFFFF, 0x5555, 0xAAAA]);
+                let word = self.levels();
                 self.write(half_address(CPR0, c), word);
             }
+        }
+    }
+
+    /// Priorities of eight channels, none of them off: one level, or any.
+    fn levels(&mut self) -> u16 {
+        if self.random.one_in(3) {
+            return self.random.pick(&[0xFFFF, 0x5555, 0xAAAA]);
+        }
+        (0..8).fold(0, |word, c| {
+            word | in_half(c, self.random.between(1, 3) as u16)
+        })
+    }
+
+    fn new_levels(&mut self) {
+        for address in [CPR0, CPR0 + 2] {
+            let levels = self.levels();
+            self.write(address, levels);
+        }
+    }
+
+    /// All channels but those of some motors are to be served over and over.
+    fn crowd(&mut self) {
+        let motors = self.motors.clone();
+        let spared: Vec<Motor> = motors
+            .into_iter()
+            .filter(|_| self.random.one_in(2))
+            .collect();
+        let is_spared = |c: usize| spared.iter().any(|m| (m.first..=m.last).contains(&c));
+        self.busy = (0..16).filter(|&c| !is_spared(c)).collect();
+        self.new_levels();
+        for motor in spared {
+            if self.would_start(motor) {
+                self.retarget(motor);
+                self.request(motor.first, STEP);
+            }
+        }
+    }
+
+    /// What makes an initialise right leaves the next one right.
+    fn set_by_itself(&mut self, c: usize) {
+        let pattern = self.random.pick(&BY_ITSELF);
+        self.set(c, PIN_CONTROL, pattern);
+        self.set(c, CHANNEL_CONTROL, pattern);
+        self.set_function(c, STEPPER);
+    }
+
+    /// An initialise for each of them that can have one, and some ticks.
+    fn keep_busy(&mut self) {
+        let mut words = [0; 2];
+        for c in self.busy.clone() {
+            let request = in_half(c, INITIALISE);
+            let address = half_address(HSRR0, c);
+            if self.unit.clone().write(address, request).is_ok() {
+                words[c / 8] |= request;
+            } else if !self.unit.is_bound(c) && self.unit.request(c) == 0 {
+                self.set_by_itself(c);
+            }
+        }
+        self.write(HSRR0 + 2, words[0]);
+        self.write(HSRR0, words[1]);
+        let n = match self.random.below(3) {
+            0 => self.random.between(1, 16),
+            _ => self.random.between(1, 2),
+        };
+        self.advance(n);
+        if self.random.one_in(60) {
+            self.busy.clear();
         }
     }
 
@@ -595,7 +696,7 @@ impl Maker {
             self.start(motor);
         }
         self.set_priority(motor.first, OFF);
-        let n = self.random.pick(&[1, 2, 5, 10, 30, 100, 300]);
+        let n = self.random.pick(&[1, 5, 30, 100, 200, 300, 500]);
         self.advance(n);
         if self.random.one_in(3) {
             self.retarget(motor);
@@ -767,7 +868,7 @@ impl Maker {
 
     /// A second initialise pending on a channel that was ready.
     fn initialise_again(&mut self, motor: Motor, other: usize) {
-        let by_itself = self.random.pick(&[[0x8081, 0x0082], [0x80E1, 0x00E2]]);
+        let by_itself = self.random.pick(&[BY_ITSELF, [0x80E1, 0x00E2]]);
         for g in motor.first..=motor.last {
             let pattern = self.random.pick(&by_itself);
             self.set(g, PIN_CONTROL, pattern);
@@ -813,7 +914,7 @@ impl Maker {
         let per_rate = self.unit.word(motor.first + 1, STEP_CNTL0);
         let from = self.random.pick(&[1 + n, 2]);
         let at = u32::from(per_rate) * u32::from(from);
-        let edge = self.random.pick(&[0, 0, 1, 0x7FFF, 0x8000]);
+        let edge = self.random.pick(&[0, 1, 127, 128, 0x7FFF, 0x8000]);
         let word = (at + edge).min(0xFFFF) as u16;
         self.try_word(motor.first + 1, STEP_CNTL1, word, motor.first);
     }

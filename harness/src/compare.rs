@@ -32,6 +32,7 @@ pub fn see(unit: &mut dyn Unit, call: Call, depth: Depth) -> Seen {
         state.tcr1 = 0;
         state.tcr2 = 0;
         state.channels = Default::default();
+        state.slots = Default::default();
     }
     Seen {
         answer,
@@ -93,6 +94,7 @@ impl Difference {
         for (c, (a, b)) in one.channels.iter().zip(&other.channels).enumerate() {
             note(&mut lines, format!("channel {c}"), a, b);
         }
+        note(&mut lines, "slots", one.slots, other.slots);
         lines
     }
 

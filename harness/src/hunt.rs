@@ -24,6 +24,9 @@ impl Hunt {
         let parameters = (PARAMETERS..=PARAMETERS + 0xFE).step_by(2);
         calls.extend(registers.chain(parameters).map(Call::Read));
         Watch::run(&calls, &mut self.counts);
+        if let Some(rule) = self.counts.slots.broken {
+            return Err(format!("seed {seed}: plain: not so: {rule}"));
+        }
         let (mut plain, mut archive) = (Plain::default(), Archive::new());
         let fault = report::difference(&mut plain, &mut archive, &calls)
             .or_else(|| report::breach(&mut archive, &calls, &mut self.judged));

@@ -1,9 +1,10 @@
 //! The state in the words that a caller of the archive lends: 128 parameter
-//! words, 12 registers, TCR1, TCR2, pins, 16 words of flags and 16 of times.
+//! words, 12 registers, TCR1, TCR2, pins, 16 words of flags and 16 of times,
+//! the slot and the starts of the three levels, high first.
 
-use crate::unit::{ChannelView, Phase, Snapshot};
+use crate::unit::{ChannelView, Phase, Slots, Snapshot};
 
-pub const WORDS: usize = 175;
+pub const WORDS: usize = 179;
 
 const REGISTERS: usize = 128;
 const TCR1: usize = 140;
@@ -11,6 +12,8 @@ const TCR2: usize = 141;
 const PINS: usize = 142;
 const FLAGS: usize = 143;
 const TIMES: usize = 159;
+const SLOT: usize = 175;
+const STARTS: usize = 176;
 
 /// The state that the words stand for. Any words stand for one: bits of the
 /// flags that mean nothing, and times that the phase has no use for, are
@@ -24,6 +27,8 @@ pub fn unpack(words: &[u16; WORDS]) -> Snapshot {
     for (c, channel) in channels.iter_mut().enumerate() {
         *channel = channel_of(words[FLAGS + c], words[TIMES + c]);
     }
+    let mut starts = [0; 3];
+    starts.copy_from_slice(&words[STARTS..]);
     Snapshot {
         registers,
         words: parameters,
@@ -31,6 +36,10 @@ pub fn unpack(words: &[u16; WORDS]) -> Snapshot {
         tcr2: words[TCR2],
         pins: words[PINS],
         channels,
+        slots: Slots {
+            slot: words[SLOT],
+            starts,
+        },
     }
 }
 
@@ -61,6 +70,8 @@ pub fn pack(state: &Snapshot) -> [u16; WORDS] {
     for (c, channel) in state.channels.iter().enumerate() {
         (words[FLAGS + c], words[TIMES + c]) = words_of(channel);
     }
+    words[SLOT] = state.slots.slot;
+    words[STARTS..].copy_from_slice(&state.slots.starts);
     words
 }
 

@@ -1,7 +1,8 @@
-//! The timer unit of document 01, with #103 and #106 of paper 02, as plain
-//! Rust, state by `&mut`. To try the harness it can make a blunder on purpose.
+//! The timer unit of document 01, with #103, #106 and #107 of paper 02, as
+//! plain Rust, state by `&mut`. To try the harness it can make a blunder on
+//! purpose.
 
-use crate::unit::{ChannelView, Phase, Snapshot, Unit};
+use crate::unit::{ChannelView, Phase, Slots, Snapshot, Unit};
 
 pub const CIER: u16 = 0xE0A;
 pub const CFSR0: u16 = 0xE0C;
@@ -21,6 +22,11 @@ const STEP: u16 = 3;
 
 /// TCR2 rises once in so many ticks.
 pub const TICKS_A_COUNT: u16 = 8;
+
+/// Priorities of a round of slots, the first after reset first; 3 is high.
+pub const ROUND: [u16; 7] = [3, 2, 3, 1, 3, 2, 3];
+/// Fewest counts of a motor's quickest step.
+pub const SHORTEST: u16 = 128;
 
 // Bits 8 to 5 of CHANNEL_CONTROL: capture and match by a timer.
 const BY_TCR1: u16 = 4;
@@ -87,8 +93,8 @@ fn ask(answer: bool, number: u8) -> Result<(), u8> {
 
 /// A fault to be found. The first four are those of document 01, the fifth is
 /// the first board that its conditions of acceptance shut out, the sixth is the
-/// turn as it was before paper 02, #103, and the others are about the timers of
-/// #106.
+/// turn as it was before paper 02, #103, the next five are about the timers of
+/// #106, and the others about the slots of #107.
 #[derive(Clone, Copy, Debug, PartialEq, Eq)]
 pub enum Blunder {
     /// MOD_CNT counts visits to a turn, not steps.
@@ -113,6 +119,28 @@ pub enum Blunder {
     AsksFirstKind,
     /// Question 6 looks at the kind of the last secondary only.
     AsksLastKind,
+    /// Two channels are served in a tick.
+    ServesTwo,
+    /// A level's search begins at channel 0 in every slot.
+    SearchesFromZero,
+    /// A slot is handed over to the lowest level that has a ready channel.
+    HandsToLowest,
+    /// A slot that is handed over moves the last of its own level.
+    MovesLastOfSlot,
+    /// Every slot serves the highest level with a ready channel.
+    StarvesLow,
+    /// The slot stands still while no channel is ready.
+    SlotRests,
+    /// The channel is chosen before the matches of the tick.
+    ChoosesFirst,
+    /// A period is counted from the service of the match before it.
+    CountsFromService,
+    /// The pins change when the match is served.
+    PinsAtService,
+    /// Question 14 is not asked.
+    TakesQuickRamps,
+    /// Question 14 is asked after question 9.
+    AsksTargetFirst,
 }
 
 #[derive(Clone, Copy, Default)]
@@ -147,6 +175,7 @@ pub struct Plain {
     hsqr: [u16; 2],
     channels: [Channel; 16],
     words: [[u16; 8]; 16],
+    slots: Slots,
 }
 
 // The three calls and the line.
@@ -345,11 +374,18 @@ impl Plain {
         passed_over || self.is_slow(g) == self.is_slow(primary)
     }
 
-    /// Questions 8 and 9.
+    /// Questions 8, 14 and 9.
     fn ask_ramp_and_target(&self, c: usize) -> Result<(), u8> {
         let n = self.rate_count(c);
-        ask(self.period(c, n) >= 1 && self.period(c, 1) <= 0x7FFF, 8)?;
-        ask(self.words[c][TARGET] <= 0xFFFF - n, 9)
+        let quickest = self.period(c, n);
+        ask(quickest >= 1 && self.period(c, 1) <= 0x7FFF, 8)?;
+        let near = self.words[c][TARGET] <= 0xFFFF - n;
+        if self.makes(Blunder::AsksTargetFirst) {
+            ask(near, 9)?;
+        }
+        let slow_enough = quickest >= i32::from(SHORTEST);
+        ask(slow_enough || self.makes(Blunder::TakesQuickRamps), 14)?;
+        ask(near, 9)
     }
 }
 
@@ -384,6 +420,7 @@ impl Plain {
 impl Plain {
     fn tick(&mut self) {
         self.time_goes_on();
+        let early = self.makes(Blunder::ChoosesFirst).then(|| self.choose());
         for c in 0..16 {
             if let Phase::Armed(time) = self.channels[c].phase {
                 if self.is_due(c, time) {
@@ -391,16 +428,26 @@ impl Plain {
                 }
             }
         }
-        for c in 0..16 {
-            let channel = &self.channels[c];
-            if channel.priority == 0 {
-                continue;
+        if let Some(c) = early.unwrap_or_else(|| self.choose()) {
+            self.serve(c);
+        }
+        let second = self.makes(Blunder::ServesTwo).then(|| self.choose());
+        if let Some(c) = second.flatten() {
+            self.serve(c);
+        }
+    }
+
+    /// The request, and then the match that was pending before it.
+    fn serve(&mut self, c: usize) {
+        let phase = self.channels[c].phase;
+        self.serve_request(c);
+        if let Phase::Matched(captured) = phase {
+            if self.makes(Blunder::PinsAtService) {
+                self.show(c);
             }
-            let phase = channel.phase;
-            self.serve_request(c);
-            if let Phase::Matched(captured) = phase {
-                self.turn(c, !self.channels[c].left, captured);
-            }
+            let late = self.makes(Blunder::CountsFromService);
+            let reference = if late { self.now(c) } else { captured };
+            self.turn(c, !self.channels[c].left, reference);
         }
     }
 
@@ -415,6 +462,10 @@ impl Plain {
         if self.ticks_of_count == whole {
             self.ticks_of_count = 0;
             self.tcr2 = self.tcr2.wrapping_add(1);
+        }
+        let rests = self.makes(Blunder::SlotRests) && (0..16).all(|c| !self.is_ready(c));
+        if !rests {
+            self.slots.slot = (self.slots.slot % 7 + 1) % 7;
         }
     }
 
@@ -446,10 +497,17 @@ impl Plain {
 
     /// The match happens: prepared levels to the pins, time captured.
     fn act(&mut self, c: usize) {
+        if !self.makes(Blunder::PinsAtService) {
+            self.show(c);
+        }
+        self.channels[c].phase = Phase::Matched(self.now(c));
+    }
+
+    /// The prepared levels of a group go to its pins.
+    fn show(&mut self, c: usize) {
         for g in c..=self.last(c) {
             self.set_pin(g, self.channels[g].level);
         }
-        self.channels[c].phase = Phase::Matched(self.now(c));
     }
 
     fn set_pin(&mut self, c: usize, high: bool) {
@@ -486,6 +544,52 @@ impl Plain {
         self.words[c][CHANNEL_CONTROL] = self.words[c][PIN_CONTROL];
         self.channels[c].initialised = true;
         self.cisr |= 1 << c;
+    }
+}
+
+// Whom a slot goes to.
+impl Plain {
+    /// Enabled, with something to be served.
+    fn is_ready(&self, c: usize) -> bool {
+        let channel = &self.channels[c];
+        let requested = matches!(channel.request, INITIALISE | STEP);
+        let matched = matches!(channel.phase, Phase::Matched(_));
+        channel.priority != 0 && (requested || matched)
+    }
+
+    /// The channel that this tick serves. It is from now on the last of its
+    /// level.
+    fn choose(&mut self) -> Option<usize> {
+        // The first slot of a round is number 1, the last is number 0.
+        let own = ROUND[usize::from(self.slots.slot + 6) % 7];
+        let mut order = [own, 3, 2, 1];
+        if self.makes(Blunder::HandsToLowest) {
+            order = [own, 1, 2, 3];
+        } else if self.makes(Blunder::StarvesLow) {
+            order = [3, 2, 1, own];
+        }
+        let (level, c) = order
+            .into_iter()
+            .find_map(|level| Some((level, self.next_of(level)?)))?;
+        let moved = if self.makes(Blunder::MovesLastOfSlot) {
+            own
+        } else {
+            level
+        };
+        self.slots.starts[usize::from(3 - moved)] = (c as u16 + 1) % 16;
+        Some(c)
+    }
+
+    /// The next ready channel of a level, round from 15 to 0.
+    fn next_of(&self, level: u16) -> Option<usize> {
+        let start = if self.makes(Blunder::SearchesFromZero) {
+            0
+        } else {
+            usize::from(self.slots.starts[usize::from(3 - level)])
+        };
+        (start..start + 16)
+            .map(|c| c % 16)
+            .find(|&c| self.channels[c].priority == level && self.is_ready(c))
     }
 }
 
@@ -611,6 +715,7 @@ impl Plain {
             cier: r[0],
             cisr: r[11],
             hsqr: [r[5], r[6]],
+            slots: state.slots,
             ..Plain::default()
         };
         for c in 0..16 {
@@ -650,6 +755,14 @@ impl Plain {
 
     pub fn pins(&self) -> u16 {
         self.pins
+    }
+
+    pub fn request(&self, c: usize) -> u16 {
+        self.channels[c].request
+    }
+
+    pub fn priority(&self, c: usize) -> u16 {
+        self.channels[c].priority
     }
 
     pub fn word(&self, c: usize, w: usize) -> u16 {
@@ -719,6 +832,7 @@ impl Unit for Plain {
             tcr2: self.tcr2,
             pins: self.pins,
             channels,
+            slots: self.slots,
         }
     }
 }

@@ -1,7 +1,7 @@
 //! Term 3 watched while calls run on a unit. It sees the unit through its
 //! calls alone, after each call and each tick, and knows no other rule than
-//! the words of term 3 in document 01, with the longer wait of request #106:
-//! which timer a group has, the initialise of its primary tells.
+//! the words of term 3 in document 01, with the longer waits of requests #106
+//! and #107: which timer a group has, the initialise of its primary tells.
 
 use crate::calls::{perform, Answer, Call, Lent};
 use crate::plain::{
@@ -24,8 +24,8 @@ pub struct Breach {
 #[derive(Clone, Debug, Default)]
 pub struct Judged {
     pub counts: u64,
-    /// Of these: ended by the arrival; within the time, the priority being on
-    /// all along; within that of TCR2; with a turn.
+    /// Of these: ended by the arrival; within the time, the primary having
+    /// kept one level; within that of TCR2; with a turn.
     pub arrivals: u64,
     pub in_time: u64,
     pub in_slow_time: u64,
@@ -87,8 +87,8 @@ struct Run {
     position: u16,
     rate: u16,
     latest: Option<Step>,
-    /// The priority was never 00 since the request.
-    enabled: bool,
+    /// The priority that it kept since the request, if that is not 00.
+    level: Option<u16>,
     /// By TCR2.
     slow: bool,
     count: Count,
@@ -104,6 +104,10 @@ struct Count {
     turns: u64,
     ticks: u64,
 }
+
+/// Slots in which a channel that is ready at one level is served: at the start
+/// of a run and at its end an arrival may wait for as many.
+pub const LONGEST_TURN: u64 = 112;
 
 /// What a breach is about, without its place.
 type Judgement = Result<(), &'static str>;
@@ -181,9 +185,10 @@ impl Watch<'_> {
         self.word(c, MOD_AND_RATE) & 15
     }
 
-    fn is_enabled(&self, c: usize) -> bool {
+    fn level(&self, c: usize) -> Option<u16> {
         let word = self.read(CPR0 + 2 * (1 - c as u16 / 8));
-        (word >> (2 * (c % 8))) & 3 != 0
+        let priority = (word >> (2 * (c % 8))) & 3;
+        (priority != 0).then_some(priority)
     }
 
     /// Whether a write of the position is taken; it writes what stands there.
@@ -223,21 +228,21 @@ impl Watch<'_> {
                 // This word is locked until the service.
                 self.slow[c] = self.word(c, CHANNEL_CONTROL) & 0x1E0 == 0xE0;
             } else if request == 3 && self.runs[c].is_none() {
-                self.begin(c, None, true);
+                self.begin(c, None, self.level(c));
             } else if address == word_address(c, TARGET) {
                 if let Some(run) = self.runs[c] {
                     self.end(&run.count);
-                    self.begin(c, run.latest, run.enabled);
+                    self.begin(c, run.latest, run.level);
                 }
             }
-            let enabled = self.is_enabled(c);
+            let level = self.level(c);
             if let Some(run) = &mut self.runs[c] {
-                run.enabled &= enabled;
+                run.level = run.level.filter(|_| run.level == level);
             }
         }
     }
 
-    fn begin(&mut self, c: usize, latest: Option<Step>, enabled: bool) {
+    fn begin(&mut self, c: usize, latest: Option<Step>, level: Option<u16>) {
         let (position, rate) = (self.word(c, POSITION), self.rate(c));
         let target = self.word(c, TARGET);
         let ahead = i64::from(rate.max(1)) - 1;
@@ -254,12 +259,12 @@ impl Watch<'_> {
             position,
             rate,
             latest,
-            enabled,
+            level,
             slow,
             count: Count {
                 target,
                 steps,
-                limit: 1 + ticks_a_count * longest * (steps + 1),
+                limit: 1 + ticks_a_count * longest * (steps + 1) + 2 * LONGEST_TURN,
                 made: 0,
                 turns: 0,
                 ticks: 0,
@@ -324,12 +329,12 @@ impl Watch<'_> {
             run.arrival(self.word(c, TARGET), status & 1 << c != 0)?;
             self.end(&run.count);
             self.judged.arrivals += 1;
-            self.judged.in_time += u64::from(run.enabled);
-            self.judged.in_slow_time += u64::from(run.enabled && run.slow);
+            self.judged.in_time += u64::from(run.level.is_some());
+            self.judged.in_slow_time += u64::from(run.level.is_some() && run.slow);
             return Ok(false);
         }
         self.dark(c, status)?;
-        let late = run.enabled && run.count.ticks >= run.count.limit;
+        let late = run.level.is_some() && run.count.ticks >= run.count.limit;
         demand(!late, "it has arrived in time")?;
         Ok(true)
     }

@@ -29,6 +29,15 @@ pub struct ChannelView {
     pub phase: Phase,
 }
 
+/// Where the slots of request #107 stand.
+#[derive(Clone, Copy, Debug, Default, PartialEq, Eq)]
+pub struct Slots {
+    /// Ticks since reset, modulo 7.
+    pub slot: u16,
+    /// Of high, middle and low the number above the channel served last.
+    pub starts: [u16; 3],
+}
+
 /// The whole state in one common shape.
 #[derive(Clone, Debug, PartialEq, Eq)]
 pub struct Snapshot {
@@ -41,6 +50,7 @@ pub struct Snapshot {
     pub tcr2: u16,
     pub pins: u16,
     pub channels: [ChannelView; 16],
+    pub slots: Slots,
 }
 
 impl Snapshot {

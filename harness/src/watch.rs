@@ -2,6 +2,7 @@
 
 use crate::calls::{perform, Answer, Call, Lent};
 use crate::plain::{Plain, COUNT_AND_LAST, HSRR0, MOD_AND_RATE, POSITION, TARGET, TICKS_A_COUNT};
+use crate::turns::{Need, Slots, Turns};
 use crate::unit::{Phase, Unit};
 use std::fmt;
 
@@ -11,7 +12,7 @@ pub struct Counts {
     pub calls: u64,
     pub ticks: u64,
     /// By number of the question.
-    pub refused: [u64; 11],
+    pub refused: [u64; 15],
     pub words_read: u64,
     pub wraps: u64,
     pub initialised: u64,
@@ -42,7 +43,11 @@ pub struct Counts {
     pub shared_ticks: u64,
     pub line_up: u64,
     pub slow: Slow,
+    pub slots: Slots,
 }
+
+/// Questions that refuse a call of the unit.
+pub const QUESTIONS: [usize; 11] = [1, 2, 3, 4, 5, 6, 7, 8, 9, 10, 14];
 
 /// What happens by TCR2, or because of it.
 #[derive(Clone, Default, Debug)]
@@ -86,7 +91,7 @@ impl Counts {
     /// The counts that a useful set of lists has above zero, by name.
     pub fn named(&self) -> Vec<(String, u64)> {
         let mut all = Vec::new();
-        for number in 1..=10 {
+        for number in QUESTIONS {
             all.push((
                 format!("refused by question {number}"),
                 self.refused[number],
@@ -118,6 +123,7 @@ impl Counts {
         ];
         let single = single.into_iter().chain(self.slow.named());
         all.extend(single.map(|(name, count)| (name.to_string(), count)));
+        all.extend(self.slots.named());
         all
     }
 }
@@ -161,6 +167,9 @@ pub struct Watch {
     ticks: u64,
     matched: [u64; 16],
     served_next: [bool; 16],
+    /// The priority that a primary has kept since its request, if it has.
+    kept: [Option<u16>; 16],
+    turns: Turns,
     lent: Lent,
 }
 
@@ -184,7 +193,15 @@ impl Look {
 impl Watch {
     /// Runs one list from reset and adds to the counts.
     pub fn run(calls: &[Call], counts: &mut Counts) {
-        let mut watch = Watch::default();
+        Watch::run_on(Plain::default(), calls, counts);
+    }
+
+    /// The same with a unit that may make a blunder.
+    pub fn run_on(unit: Plain, calls: &[Call], counts: &mut Counts) {
+        let mut watch = Watch {
+            unit,
+            ..Watch::default()
+        };
         counts.lists += 1;
         for &call in calls {
             watch.call(call, counts);
@@ -219,13 +236,15 @@ impl Watch {
         }
     }
 
-    fn taken(&self, call: Call, before: &Plain, counts: &mut Counts) {
+    fn taken(&mut self, call: Call, before: &Plain, counts: &mut Counts) {
         let Call::Write(address, value) = call else {
             return;
         };
         for c in 0..16 {
             let was_moving = before.phase(c) != Phase::Resting;
             let moving = self.unit.phase(c) != Phase::Resting;
+            let level = Some(self.unit.priority(c)).filter(|&level| level != 0);
+            self.kept[c] = level.filter(|_| !was_moving || self.kept[c] == level);
             if moving && !was_moving {
                 let last = usize::from(self.unit.word(c, COUNT_AND_LAST) & 15);
                 counts.starts[last - c + 1] += 1;
@@ -253,7 +272,21 @@ impl Watch {
         }
     }
 
+    fn needs(&self) -> [Need; 16] {
+        let mut needs = [Need::default(); 16];
+        for (c, need) in needs.iter_mut().enumerate() {
+            *need = Need::of(&self.unit, c);
+        }
+        needs
+    }
+
     fn tick(&mut self, counts: &mut Counts) {
+        let needs = self.needs();
+        self.tick_groups(counts);
+        self.turns.tick(&needs, &self.needs(), &mut counts.slots);
+    }
+
+    fn tick_groups(&mut self, counts: &mut Counts) {
         let mut before = [Look::default(); 16];
         let mut moving = 0;
         let mut slow = 0;
@@ -319,6 +352,9 @@ impl Watch {
             Phase::Matched(_) => {
                 counts.due_at_set_up += 1;
                 counts.slow.due_at_set_up += u64::from(after.by_tcr2);
+                if self.kept[c].is_some() {
+                    counts.slots.broken = Some("no match is set too late at one level");
+                }
                 self.matched[c] = self.ticks;
                 self.served_next[c] = true;
             }

@@ -1,6 +1,6 @@
-//! The harness finds the blunders of document 01, and those of the timers of
-//! request #106, each made by the plain unit, and shortens the list of calls
-//! that shows it.
+//! The harness finds the blunders of document 01, those of the timers of request
+//! #106 and those of the slots of request #107, each made by the plain unit, and
+//! shortens the list of calls that shows it.
 
 use harness::calls::{call_list, Call};
 use harness::compare::{first_difference, Depth};
@@ -12,8 +12,11 @@ use harness::term3::{judge, Judged};
 /// Each with whether term 3 forbids it. A pattern that is a step out changes
 /// no position, rate or time: term 3 says nothing of it. Nor does it say when
 /// a motor takes up speed: the steps that it promises are the same. It forbids
-/// neither a motor that is too quick nor a group of both kinds.
-const BLUNDERS: [(Blunder, bool); 11] = [
+/// neither a motor that is too quick nor a group of both kinds. Of the slots it
+/// says only that an arrival is not too late, for which these lists are seldom
+/// busy enough: see the boards of `slots`. Two services in a tick can be two
+/// steps of one motor.
+const BLUNDERS: [(Blunder, bool); 22] = [
     (Blunder::CountsVisits, false),
     (Blunder::ComparesPlainly, true),
     (Blunder::TurnsWhileFast, true),
@@ -25,6 +28,17 @@ const BLUNDERS: [(Blunder, bool); 11] = [
     (Blunder::RefersToTcr1, true),
     (Blunder::AsksFirstKind, false),
     (Blunder::AsksLastKind, false),
+    (Blunder::ServesTwo, true),
+    (Blunder::SearchesFromZero, false),
+    (Blunder::HandsToLowest, false),
+    (Blunder::MovesLastOfSlot, false),
+    (Blunder::StarvesLow, false),
+    (Blunder::SlotRests, false),
+    (Blunder::ChoosesFirst, false),
+    (Blunder::CountsFromService, false),
+    (Blunder::PinsAtService, false),
+    (Blunder::TakesQuickRamps, false),
+    (Blunder::AsksTargetFirst, false),
 ];
 
 fn breaks_term_3(blunder: Blunder, calls: &[Call]) -> bool {

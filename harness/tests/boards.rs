@@ -49,10 +49,10 @@ impl Board {
             Wrong::StepsAtOnce => step_at_once(&before, &mut after),
             Wrong::PinsRest if is_moving(&before) => after.pins = before.pins,
             Wrong::LetsTimePass if is_moving(&before) => {
-                let Snapshot { tcr1, tcr2, .. } = after;
                 after = Snapshot {
-                    tcr1,
-                    tcr2,
+                    tcr1: after.tcr1,
+                    tcr2: after.tcr2,
+                    slots: after.slots,
                     ..before
                 };
             }

@@ -1,13 +1,17 @@
-//! Request #105 of paper 02: a row of channels does not feel what happens
-//! outside it. Two runs are given the same ticks and, between them, the same
-//! writes that concern the row; the rest of their calls has nothing in common.
-//! The row is compared after every tick.
+//! Requests #105 and #107 of paper 02: what a motor's pins do is the same
+//! whatever happens outside its row of channels. Two runs are given the same
+//! ticks and, between them, the same writes that concern the row; the rest of
+//! their calls has nothing in common. Each move that one request sets going in
+//! both is compared by the counts of its timer since its own first service.
 
 use harness::archive::Archive;
 use harness::calls::{motors, Call, Maker};
-use harness::plain::{Plain, CFSR0, COUNT_AND_LAST, CPR0, HSRR0, PARAMETERS, POSITION, TARGET};
+use harness::plain::{
+    Blunder, Plain, CFSR0, COUNT_AND_LAST, CPR0, HSRR0, MOD_AND_RATE, PARAMETERS, POSITION, TARGET,
+};
 use harness::random::Random;
-use harness::unit::{ChannelView, Phase, Snapshot, Unit};
+use harness::unit::{Phase, Snapshot, Unit};
+use std::ops::RangeInclusive;
 
 /// The channels from the first to the last.
 #[derive(Clone, Copy, Debug)]
@@ -18,7 +22,11 @@ struct Row {
 
 impl Row {
     fn has(self, c: usize) -> bool {
-        (self.first..=self.last).contains(&c)
+        self.channels().contains(&c)
+    }
+
+    fn channels(self) -> RangeInclusive<usize> {
+        self.first..=self.last
     }
 
     /// The group of the primary is neither all inside nor all outside.
@@ -27,45 +35,6 @@ impl Row {
         let inside = self.has(primary) && self.has(last);
         let outside = last < self.first || self.last < primary;
         !inside && !outside
-    }
-
-    fn view(self, state: &Snapshot) -> View {
-        let mut view = View::default();
-        for c in self.first..=self.last {
-            view.pins |= state.pins & 1 << c;
-            view.words.extend(&state.words[8 * c..8 * c + 8]);
-            view.channels.push(state.channels[c]);
-            for word in [Shared::Functions, Shared::Requests, Shared::Priorities] {
-                view.fields.push(word.field(state.at(word.of(c)), c));
-            }
-        }
-        view
-    }
-}
-
-/// All that is the row's own.
-#[derive(Debug, Default)]
-struct View {
-    pins: u16,
-    words: Vec<u16>,
-    channels: Vec<ChannelView>,
-    fields: Vec<u16>,
-}
-
-impl View {
-    /// The parts in which two views differ.
-    fn differs(&self, other: &View) -> Vec<&'static str> {
-        let parts = [
-            ("pins", self.pins != other.pins),
-            ("words", self.words != other.words),
-            ("channels", self.channels != other.channels),
-            ("fields", self.fields != other.fields),
-        ];
-        parts
-            .iter()
-            .filter(|part| part.1)
-            .map(|part| part.0)
-            .collect()
     }
 }
 
@@ -123,18 +92,25 @@ fn channels_of(shared: Shared, address: u16) -> impl Iterator<Item = usize> {
 #[derive(Debug, Default)]
 struct Tally {
     ticks: usize,
-    row_steps: usize,
-    row_targets: usize,
+    /// Moves set going in both runs, and of these: up to both ends, first
+    /// served in different ticks, by TCR2.
+    moves: usize,
+    ended: usize,
+    first_differs: usize,
+    by_tcr2: usize,
+    /// Counts at which pins were compared, and where words were; where only
+    /// one run had its match served.
+    counts: usize,
+    words: usize,
+    late_in_one: usize,
     steps_outside: usize,
     pins_differ: usize,
-    /// The row and the rest of the second run step in one tick.
-    together: usize,
-    row_steps_slow: usize,
-    steps_outside_slow: usize,
-    /// Motors of the row and of the rest are on their way by other timers.
-    other_timers: usize,
     mixed_words: usize,
-    refused: usize,
+    /// Writes to the row that only one run would have taken, and targets on
+    /// the way.
+    dropped: usize,
+    targets_dropped: usize,
+    level_changed: usize,
     cut_groups: usize,
 }
 
@@ -142,71 +118,204 @@ impl Tally {
     fn never(&self) -> Option<&'static str> {
         let all = [
             ("ticks", self.ticks),
-            ("steps of the row", self.row_steps),
-            ("targets of the row", self.row_targets),
+            ("moves in both runs", self.moves),
+            ("moves up to both ends", self.ended),
+            ("first services in different ticks", self.first_differs),
+            ("moves by TCR2", self.by_tcr2),
+            ("counts with pins compared", self.counts),
+            ("counts with words compared", self.words),
+            ("counts with one match late", self.late_in_one),
             ("steps outside", self.steps_outside),
             ("pins that differ outside", self.pins_differ),
-            ("steps in one tick", self.together),
-            ("steps of the row by TCR2", self.row_steps_slow),
-            ("steps outside by TCR2", self.steps_outside_slow),
-            ("ticks with other timers outside", self.other_timers),
             ("shared words for both", self.mixed_words),
-            ("refused calls", self.refused),
+            ("writes that one run refuses", self.dropped),
+            ("targets on the way", self.targets_dropped),
+            ("moves whose level changed", self.level_changed),
             ("groups across an end of the row", self.cut_groups),
         ];
         all.iter().find(|(_, n)| *n == 0).map(|(name, _)| *name)
     }
 }
 
-struct Frames<'a> {
+/// A group at one count.
+#[derive(Clone, Copy, Debug, PartialEq)]
+struct Seen {
+    pins: u16,
+    /// Position, MOD_CNT and rate; none while a match is not served.
+    words: Option<[u16; 2]>,
+}
+
+impl Seen {
+    fn of(state: &Snapshot, group: Row) -> Seen {
+        let word = |w: usize| state.words[8 * group.first + w];
+        let waits = matches!(state.channels[group.first].phase, Phase::Matched(_));
+        Seen {
+            pins: group
+                .channels()
+                .fold(0, |pins, c| pins | state.pins & 1 << c),
+            words: (!waits).then(|| [word(POSITION), word(MOD_AND_RATE)]),
+        }
+    }
+
+    /// The same pins, and the same words where both show them.
+    fn agrees(self, other: Seen) -> bool {
+        let words = self.words.zip(other.words);
+        self.pins == other.pins && words.is_none_or(|(a, b)| a == b)
+    }
+}
+
+/// A move in one run.
+#[derive(Debug, Default)]
+struct Course {
+    /// The tick of the first service.
+    first: Option<usize>,
+    /// The group's timer as last seen.
+    time: u16,
+    /// From the first service on, by count.
+    seen: Vec<Seen>,
+    ended: bool,
+}
+
+impl Course {
+    /// After a tick. Within one count nothing but words that waited may change.
+    fn tick(&mut self, tick: usize, group: Row, state: &Snapshot) -> Result<(), String> {
+        let primary = &state.channels[group.first];
+        if self.ended || self.first.is_none() && primary.phase == Phase::Requested {
+            return Ok(());
+        }
+        let now = if primary.by_tcr2 {
+            state.tcr2
+        } else {
+            state.tcr1
+        };
+        let seen = Seen::of(state, group);
+        let counts_on = self.first.is_none() || now != self.time;
+        match self.seen.last_mut() {
+            Some(before) if !counts_on && !before.agrees(seen) => {
+                return Err(format!("in one count {before:?} and {seen:?}"));
+            }
+            Some(before) if !counts_on => before.words = before.words.or(seen.words),
+            _ => self.seen.push(seen),
+        }
+        self.first.get_or_insert(tick);
+        self.time = now;
+        self.ended = primary.phase == Phase::Resting;
+        Ok(())
+    }
+}
+
+/// A move that one request set going in both runs.
+struct Move {
+    group: Row,
+    level: u16,
+    courses: [Course; 2],
+}
+
+impl Move {
+    fn tick(&mut self, tick: usize, states: &[Snapshot; 2]) -> Result<(), String> {
+        let mut courses = self.courses.iter_mut().zip(states);
+        courses.try_for_each(|(course, state)| course.tick(tick, self.group, state))
+    }
+
+    /// All counts that both runs had, and the end if both came to it.
+    fn compare(&self, tally: &mut Tally) -> Result<(), String> {
+        let [one, other] = &self.courses;
+        for (count, (a, b)) in one.seen.iter().zip(&other.seen).enumerate() {
+            if !a.agrees(*b) {
+                let group = self.group;
+                return Err(format!("{group:?}, count {count}: {a:?} and {b:?}"));
+            }
+            tally.counts += 1;
+            tally.words += usize::from(a.words.is_some() && b.words.is_some());
+            tally.late_in_one += usize::from(a.words.is_some() != b.words.is_some());
+        }
+        let differs = one.first.is_some() && other.first.is_some() && one.first != other.first;
+        tally.first_differs += usize::from(differs);
+        if !(one.ended && other.ended) {
+            return Ok(());
+        }
+        tally.ended += 1;
+        match (one.seen.last(), other.seen.last()) {
+            (a, b) if a == b => Ok(()),
+            ends => Err(format!("{:?}, at the ends: {ends:?}", self.group)),
+        }
+    }
+}
+
+/// What became of a write.
+#[derive(PartialEq)]
+enum Write {
+    Made,
+    Dropped,
+    /// A group across an end of the row would be set going.
+    Cuts,
+}
+
+struct Frames<'a, U> {
     row: Row,
-    one: &'a mut dyn Unit,
-    other: &'a mut dyn Unit,
+    one: U,
+    other: U,
     /// The second run's own calls, and the ticks until its next.
     beside: Maker,
     wait: u32,
     random: Random,
+    moves: Vec<Move>,
     tally: &'a mut Tally,
 }
 
-impl Frames<'_> {
+impl<U: Unit + Clone> Frames<'_, U> {
     /// The first run's calls, with what the second run makes of them.
     fn run(&mut self, seed: u64, calls: usize) -> Result<(), String> {
         let mut maker = Maker::new(seed);
         for _ in 0..calls {
             match maker.next_call() {
                 Call::Read(address) => drop(self.one.read(address)),
-                Call::Write(address, value) => {
-                    if !self.write(address, value)? {
-                        return Ok(());
-                    }
-                }
+                Call::Write(address, value) => match self.write(address, value)? {
+                    Write::Made => {}
+                    Write::Dropped => maker.look_at(&self.one.snapshot()),
+                    Write::Cuts => break,
+                },
                 call @ Call::Advance(n, length) => match call.ticks() {
                     Some(n) => (0..n).try_for_each(|_| self.tick())?,
                     None => drop(self.one.advance(n, &mut vec![0; length])),
                 },
             }
         }
-        Ok(())
+        self.close(|_| true)
     }
 
-    /// False where a group across an end of the row would be set going.
-    fn write(&mut self, address: u16, value: u16) -> Result<bool, String> {
-        let before = self.one.snapshot();
-        if self.cuts(&before, address, value) {
+    fn write(&mut self, address: u16, value: u16) -> Result<Write, String> {
+        let before = [self.one.snapshot(), self.other.snapshot()];
+        if self.cuts(&before[0], address, value) {
             self.tally.cut_groups += 1;
-            return Ok(false);
+            return Ok(Write::Cuts);
         }
-        if self.one.write(address, value).is_err() {
-            return Ok(true);
+        let (felt, same) = self.row_part(&before[0], address, value);
+        if !felt {
+            let _ = self.one.write(address, value);
+            // One that leaves the row alone may come in either run, or in both.
+            if let Some(word) = same.filter(|_| self.random.one_in(2)) {
+                let _ = self.other.write(address, word);
+            }
+            return Ok(Write::Made);
         }
-        let Some(same) = self.row_part(&before, address, value) else {
-            return Ok(true);
-        };
-        match self.other.write(address, same) {
-            Ok(()) => Ok(true),
-            Err(n) => Err(format!("{address:03X} {same:04X} refused with {n}")),
+        let same = same.expect("a write that the row feels");
+        if self.is_target_on_the_way(&before, address) {
+            self.tally.targets_dropped += 1;
+            return Ok(Write::Dropped);
         }
+        let one = self.one.clone().write(address, value).is_ok();
+        let other = self.other.clone().write(address, same).is_ok();
+        if !(one && other) {
+            self.tally.dropped += usize::from(one != other);
+            return Ok(Write::Dropped);
+        }
+        let _ = (
+            self.one.write(address, value),
+            self.other.write(address, same),
+        );
+        self.note_moves(&before)?;
+        Ok(Write::Made)
     }
 
     fn cuts(&self, state: &Snapshot, address: u16, value: u16) -> bool {
@@ -215,15 +324,21 @@ impl Frames<'_> {
                 .any(|c| Shared::Requests.field(value, c) == 3 && self.row.cuts(state, c))
     }
 
-    /// What the second run writes for it: the same for the row, and its own
-    /// for the rest. Nothing where the row is left alone.
-    fn row_part(&mut self, before: &Snapshot, address: u16, value: u16) -> Option<u16> {
+    fn is_target_on_the_way(&self, states: &[Snapshot; 2], address: u16) -> bool {
+        let c = usize::from(address.wrapping_sub(PARAMETERS)) / 16;
+        let target = address >= PARAMETERS && address % 16 == 2 * TARGET as u16;
+        let moving = |state: &Snapshot| state.channels[c].phase != Phase::Resting;
+        target && states.iter().any(moving)
+    }
+
+    /// Whether the row feels the write, and what the second run writes for it:
+    /// the same for the row, and its own for the rest.
+    fn row_part(&mut self, before: &Snapshot, address: u16, value: u16) -> (bool, Option<u16>) {
         let row = self.row;
         let Some(shared) = Shared::at(address) else {
             let c = usize::from(address.wrapping_sub(PARAMETERS)) / 16;
-            let targets = address >= PARAMETERS && address % 16 == 2 * TARGET as u16;
-            self.tally.row_targets += usize::from(targets && row.has(c));
-            return (address >= PARAMETERS && row.has(c)).then_some(value);
+            let felt = address >= PARAMETERS && row.has(c);
+            return (felt, felt.then_some(value));
         };
         let touched = |c: &usize| match shared {
             Shared::Requests => shared.field(value, *c) > 1,
@@ -238,20 +353,17 @@ impl Frames<'_> {
         for c in inside {
             word = shared.with(word, c, shared.field(value, c));
         }
-        // One that leaves the row alone may come in either run, or in both.
-        (felt || self.random.one_in(2)).then_some(word)
+        (felt, Some(word))
     }
 
     /// A call of the second run alone, which leaves the row's fields alone.
     fn outside(&mut self) {
+        self.beside.look_at(&self.other.snapshot());
         match self.beside.next_call() {
             Call::Read(address) => drop(self.other.read(address)),
             call @ Call::Advance(n, length) => match call.ticks() {
                 Some(n) => self.wait = n.min(40),
-                None => {
-                    let taken = self.other.advance(n, &mut vec![0; length]).is_ok();
-                    self.count(taken);
-                }
+                None => drop(self.other.advance(n, &mut vec![0; length])),
             },
             Call::Write(address, value) => self.write_outside(address, value),
         }
@@ -274,13 +386,8 @@ impl Frames<'_> {
         if self.cuts(&state, address, value) {
             self.tally.cut_groups += 1;
         } else {
-            let taken = self.other.write(address, value).is_ok();
-            self.count(taken);
+            let _ = self.other.write(address, value);
         }
-    }
-
-    fn count(&mut self, taken: bool) {
-        self.tally.refused += usize::from(!taken);
     }
 
     fn tick(&mut self) -> Result<(), String> {
@@ -289,55 +396,71 @@ impl Frames<'_> {
         }
         self.wait -= 1;
         let before = self.other.snapshot();
-        for unit in [&mut *self.one, &mut *self.other] {
-            unit.advance(1, &mut [0]).map_err(|n| format!("N {n}"))?;
-        }
-        let (one, other) = (self.one.snapshot(), self.other.snapshot());
+        let pass = |unit: &mut U| unit.advance(1, &mut [0]).map_err(|n| format!("N {n}"));
+        pass(&mut self.one)?;
+        pass(&mut self.other)?;
+        let states = [self.one.snapshot(), self.other.snapshot()];
         self.tally.ticks += 1;
-        self.tally.pins_differ += usize::from(one.pins != other.pins);
-        self.count_steps(&before, &other);
-        self.count_timers(&before);
-        let (one, other) = (self.row.view(&one), self.row.view(&other));
-        match one.differs(&other)[..] {
-            [] => Ok(()),
-            ref parts => Err(format!(
-                "{parts:?} of {:?}: {one:?} and {other:?}",
-                self.row
-            )),
+        self.tally.pins_differ += usize::from(states[0].pins != states[1].pins);
+        let stepped =
+            |c: &usize| before.words[8 * c + POSITION] != states[1].words[8 * c + POSITION];
+        let outside = (0..16).filter(|&c| !self.row.has(c));
+        self.tally.steps_outside += outside.filter(stepped).count();
+        let tick = self.tally.ticks;
+        self.moves
+            .iter_mut()
+            .try_for_each(|going| going.tick(tick, &states))?;
+        self.close(|going| going.courses.iter().all(|course| course.ended))
+    }
+}
+
+// The moves.
+impl<U: Unit + Clone> Frames<'_, U> {
+    /// A write that both took may set motors going, or change their levels.
+    fn note_moves(&mut self, before: &[Snapshot; 2]) -> Result<(), String> {
+        let after = [self.one.snapshot(), self.other.snapshot()];
+        let changed = |going: &Move| {
+            let kept = |state| level_of(state, going.group.first) == going.level;
+            !after.iter().all(kept)
+        };
+        self.tally.level_changed += self.moves.iter().filter(|m| changed(m)).count();
+        self.close(changed)?;
+        for c in self.row.first..=self.row.last {
+            let starts = before.iter().zip(&after).all(|(before, after)| {
+                before.channels[c].phase == Phase::Resting
+                    && after.channels[c].phase == Phase::Requested
+            });
+            let level = level_of(&after[0], c);
+            if starts && level != 0 {
+                let last = usize::from(after[0].words[8 * c + COUNT_AND_LAST] & 15);
+                self.tally.moves += 1;
+                self.tally.by_tcr2 += usize::from(after[0].channels[c].by_tcr2);
+                self.moves.push(Move {
+                    group: Row { first: c, last },
+                    level,
+                    courses: Default::default(),
+                });
+            }
         }
+        Ok(())
+    }
+
+    /// Compares the moves that are over in this sense, and forgets them.
+    fn close(&mut self, over: impl Fn(&Move) -> bool) -> Result<(), String> {
+        let (over, going): (Vec<Move>, Vec<Move>) = self.moves.drain(..).partition(over);
+        self.moves = going;
+        over.iter().try_for_each(|m| m.compare(self.tally))
     }
 }
 
-// What a tick of the second run does.
-impl Frames<'_> {
-    fn count_steps(&mut self, before: &Snapshot, after: &Snapshot) {
-        let stepped = |c: usize| before.words[8 * c + POSITION] != after.words[8 * c + POSITION];
-        let slow = |c: &&usize| before.channels[**c].by_tcr2;
-        let (mine, others): (Vec<usize>, Vec<usize>) = (0..16)
-            .filter(|&c| stepped(c))
-            .partition(|&c| self.row.has(c));
-        self.tally.row_steps += mine.len();
-        self.tally.steps_outside += others.len();
-        self.tally.together += usize::from(!mine.is_empty() && !others.is_empty());
-        self.tally.row_steps_slow += mine.iter().filter(slow).count();
-        self.tally.steps_outside_slow += others.iter().filter(slow).count();
-    }
-
-    fn count_timers(&mut self, before: &Snapshot) {
-        let moving = |c: &usize| before.channels[*c].phase != Phase::Resting;
-        let (mine, others): (Vec<usize>, Vec<usize>) =
-            (0..16).filter(moving).partition(|&c| self.row.has(c));
-        let by = |c: usize| before.channels[c].by_tcr2;
-        let other = mine.iter().any(|&c| others.iter().any(|&d| by(c) != by(d)));
-        self.tally.other_timers += usize::from(other);
-    }
+fn level_of(state: &Snapshot, c: usize) -> u16 {
+    Shared::Priorities.field(state.at(Shared::Priorities.of(c)), c)
 }
 
-fn compare(
+fn compare<U: Unit + Clone>(
     seed: u64,
     calls: usize,
-    one: &mut dyn Unit,
-    other: &mut dyn Unit,
+    new: fn() -> U,
     tally: &mut Tally,
 ) -> Result<(), String> {
     let mut random = Random::new(seed ^ 0x105);
@@ -345,18 +468,17 @@ fn compare(
     let motors = motors(seed);
     let i = random.below(motors.len() as u32) as usize;
     let j = i + random.below((motors.len() - i) as u32) as usize;
-    let row = Row {
-        first: motors[i].0,
-        last: motors[j].1,
-    };
-    let beside = Maker::beside(seed, seed + 1_000_000);
     let mut frames = Frames {
-        row,
-        one,
-        other,
-        beside,
+        row: Row {
+            first: motors[i].0,
+            last: motors[j].1,
+        },
+        one: new(),
+        other: new(),
+        beside: Maker::beside(seed, seed + 1_000_000),
         wait: 0,
         random,
+        moves: Vec::new(),
         tally,
     };
     frames
@@ -364,17 +486,14 @@ fn compare(
         .map_err(|text| format!("seed {seed}: {text}"))
 }
 
-fn hunt<U: Unit>(new: fn() -> U) -> (Tally, Option<String>) {
+fn hunt<U: Unit + Clone>(new: fn() -> U) -> (Tally, Option<String>) {
     let mut tally = Tally::default();
-    let found = (1..=150).find_map(|seed| {
-        let (mut one, mut other) = (new(), new());
-        compare(seed, 120, &mut one, &mut other, &mut tally).err()
-    });
+    let found = (1..=150).find_map(|seed| compare(seed, 200, new, &mut tally).err());
     (tally, found)
 }
 
 #[test]
-fn a_row_does_not_feel_the_rest() {
+fn a_move_does_not_feel_the_rest() {
     for (tally, found) in [hunt(Archive::new), hunt(Plain::default)] {
         assert_eq!(found, None);
         println!("{tally:?}");
@@ -383,7 +502,7 @@ fn a_row_does_not_feel_the_rest() {
 }
 
 /// A board on which a step moves the pin of the channel after its group, too.
-#[derive(Default)]
+#[derive(Clone, Default)]
 struct Leaky(Plain);
 
 impl Unit for Leaky {
@@ -425,5 +544,14 @@ impl Unit for Leaky {
 #[test]
 fn a_board_that_leaks_is_found() {
     let (_, found) = hunt(Leaky::default);
-    assert!(found.is_some_and(|text| text.contains("[\"pins\"] of Row")));
+    assert!(found.is_some_and(|text| text.contains("pins")));
+}
+
+/// Where a late service shows: in later matches, or at the pins themselves.
+#[test]
+fn boards_that_feel_late_services_are_found() {
+    let (_, found) = hunt(|| Plain::with(Blunder::CountsFromService));
+    assert!(found.is_some_and(|text| text.contains("count")));
+    let (_, found) = hunt(|| Plain::with(Blunder::PinsAtService));
+    assert!(found.is_some_and(|text| text.contains("count")));
 }

@@ -8,6 +8,7 @@ use harness::packed::{pack, unpack, WORDS};
 use harness::plain::{Plain, CIER, HSRR0, PARAMETERS};
 use harness::random::Random;
 use harness::unit::Unit;
+use harness::watch::QUESTIONS;
 
 const SEED: u64 = 1;
 const STATES: usize = 10_000;
@@ -61,7 +62,7 @@ fn check_promises(before: &[u16; WORDS], after: &[u16; WORDS], call: Call, seen:
     assert!(seen.intact);
     let documented = match (call, seen.answer) {
         (Call::Read(_), Answer::Word(_) | Answer::Refused(1)) => true,
-        (Call::Write(..), Answer::Done | Answer::Refused(1..=9)) => true,
+        (Call::Write(..), Answer::Done | Answer::Refused(1..=9 | 14)) => true,
         (Call::Advance(..), Answer::Done) => call.ticks().is_some(),
         (Call::Advance(..), Answer::Refused(10)) => call.ticks().is_none(),
         _ => false,
@@ -76,6 +77,11 @@ fn check_promises(before: &[u16; WORDS], after: &[u16; WORDS], call: Call, seen:
         assert_eq!(new.tcr1, old.tcr1.wrapping_add(made as u16));
         let rises = (u32::from(old.tcr1) % 8 + made) / 8;
         assert_eq!(new.tcr2, old.tcr2.wrapping_add(rises as u16));
+        let slot = match made {
+            0 => u32::from(old.slots.slot),
+            _ => (u32::from(old.slots.slot) + made) % 7,
+        };
+        assert_eq!(u32::from(new.slots.slot), slot);
         assert_eq!(new.pins, *list.last().unwrap_or(&old.pins));
     } else {
         assert_eq!(after, before);
@@ -111,7 +117,7 @@ fn tell(mut words: [u16; WORDS], call: Call) -> String {
 #[test]
 fn promises_and_the_plain_unit_hold_on_any_words() {
     let mut random = Random::new(SEED);
-    let mut refused = [0; 11];
+    let mut refused = [0; 15];
     for _ in 0..STATES {
         let mut unit = Archive::with(&strange_words(&mut random));
         for _ in 0..CALLS_EACH {
@@ -129,7 +135,7 @@ fn promises_and_the_plain_unit_hold_on_any_words() {
         }
     }
     println!("seed {SEED}, {STATES} states, refused by number: {refused:?}");
-    assert!(refused[1..].iter().all(|&count| count > 0), "{refused:?}");
+    assert!(QUESTIONS.iter().all(|&n| refused[n] > 0), "{refused:?}");
 }
 
 #[test]

@@ -6,8 +6,8 @@
 
 enum { WORDS = TPU_SM_STATE_WORDS, GUARD = 4, LIST = 8, FILL = 0xA5A5 };
 
-/* Where the flags and times of the channels stand among the words: see crates/pack. */
-enum { FLAGS = 143, TIMES = 159 };
+/* Where the flags and times of the channels, the slot and the starts of the levels stand among the words: see crates/pack. */
+enum { FLAGS = 143, TIMES = 159, SLOT = 175, HIGH = 176, MIDDLE = 177, LOW = 178 };
 
 static int failures = 0;
 
@@ -128,7 +128,7 @@ static void addresses(void)
 }
 
 /* A motor on channels 4 and 5, initialised with these CHANNEL_CONTROL and at rest, that may be sent to 2 with two steps of
-   6 counts. */
+   130 counts. */
 static void motor_by(uint16_t first, uint16_t second)
 {
     begin();
@@ -138,12 +138,12 @@ static void motor_by(uint16_t first, uint16_t second)
     CHECK(put(TPU_SM_CHANNEL_CONTROL(4), first) == TPU_SM_TAKEN);
     CHECK(put(TPU_SM_CHANNEL_CONTROL(5), second) == TPU_SM_TAKEN);
     CHECK(put(TPU_SM_HSRR(4), TPU_SM_REQUEST(4, TPU_SM_INITIALISE) | TPU_SM_REQUEST(5, TPU_SM_INITIALISE)) == TPU_SM_TAKEN);
-    CHECK(tpu_sm_advance(state, WORDS, 1, pins, LIST) == TPU_SM_TAKEN && pins[0] == TPU_SM_BIT(4));
+    CHECK(tpu_sm_advance(state, WORDS, 2, pins, LIST) == TPU_SM_TAKEN && pins[1] == TPU_SM_BIT(4));
     CHECK(put(TPU_SM_DESIRED_POSITION(4), 2) == TPU_SM_TAKEN);
     CHECK(put(TPU_SM_COUNT_AND_RATE(4), TPU_SM_HALVES(0, 1)) == TPU_SM_TAKEN);
     CHECK(put(TPU_SM_TOP_AND_LAST(4), TPU_SM_HALVES(3, 5)) == TPU_SM_TAKEN);
     CHECK(put(TPU_SM_STEP_CNTL0(4), 1) == TPU_SM_TAKEN);
-    CHECK(put(TPU_SM_STEP_CNTL1(4), 8) == TPU_SM_TAKEN);
+    CHECK(put(TPU_SM_STEP_CNTL1(4), 132) == TPU_SM_TAKEN);
     CHECK(guards_stand());
 }
 
@@ -177,9 +177,11 @@ static void refusals(void)
     refused(TPU_SM_HSRR(4), step, TPU_SM_BAD_PATTERN);
     put(TPU_SM_COUNT_AND_RATE(4), TPU_SM_HALVES(0, 1));
     put(TPU_SM_STEP_CNTL1(4), 4);
-    refused(TPU_SM_HSRR(4), step, TPU_SM_BAD_RAMP);
-    put(TPU_SM_STEP_CNTL1(4), 8);
     put(TPU_SM_DESIRED_POSITION(4), 0xFFFD);
+    refused(TPU_SM_HSRR(4), step, TPU_SM_BAD_RAMP);
+    put(TPU_SM_STEP_CNTL1(4), 131);
+    refused(TPU_SM_HSRR(4), step, TPU_SM_TOO_QUICK);
+    put(TPU_SM_STEP_CNTL1(4), 132);
     refused(TPU_SM_HSRR(4), step, TPU_SM_TARGET_TOO_FAR);
     put(TPU_SM_DESIRED_POSITION(4), 2);
     CHECK(put(TPU_SM_HSRR(4), step) == TPU_SM_TAKEN);
@@ -206,13 +208,14 @@ static void advances(void)
 /* Two steps to the arrival in the tick after so many, the interrupt line up with it, and down again. */
 static void move_and_interrupt(uint32_t ticks)
 {
-    uint16_t long_list[100];
+    enum { LONG_LIST = 2100 };
+    uint16_t long_list[LONG_LIST];
     put(TPU_SM_CISR, 0);
     put(TPU_SM_CIER, TPU_SM_BIT(4));
     CHECK(put(TPU_SM_HSRR(4), TPU_SM_REQUEST(4, TPU_SM_STEP)) == TPU_SM_TAKEN);
-    CHECK(tpu_sm_advance(state, WORDS, ticks, long_list, 100) == TPU_SM_TAKEN);
+    CHECK(tpu_sm_advance(state, WORDS, ticks, long_list, LONG_LIST) == TPU_SM_TAKEN);
     CHECK(tpu_sm_interrupt_line(state, WORDS) == 0);
-    CHECK(tpu_sm_advance(state, WORDS, 1, long_list, 100) == TPU_SM_TAKEN);
+    CHECK(tpu_sm_advance(state, WORDS, 1, long_list, LONG_LIST) == TPU_SM_TAKEN);
     CHECK(tpu_sm_interrupt_line(state, WORDS) == 1);
     CHECK(get(TPU_SM_CURRENT_POSITION(4)) == 2 && get(TPU_SM_CISR) == TPU_SM_BIT(4));
     CHECK(put(TPU_SM_CISR, 0) == TPU_SM_TAKEN);
@@ -222,16 +225,28 @@ static void move_and_interrupt(uint32_t ticks)
 static void moves(void)
 {
     motor();
-    move_and_interrupt(12);
+    move_and_interrupt(260);
 }
 
-/* By TCR2, which comes to 12 in tick 96 since reset; the request comes after tick 1. A group of both kinds is refused. */
+/* By TCR2, which comes to 260 in tick 2080 since reset; the request comes after tick 2. A group of both kinds is refused. */
 static void winders(void)
 {
     motor_by(TPU_SM_SLOW(0xCCCC), TPU_SM_SLOW(0));
-    move_and_interrupt(94);
+    move_and_interrupt(2077);
     motor_by(TPU_SM_SLOW_HIGH, TPU_SM_FORCE_LOW);
     refused(TPU_SM_HSRR(4), TPU_SM_REQUEST(4, TPU_SM_STEP), TPU_SM_GROUP_NOT_READY);
+}
+
+/* The words of the slots: two services of the motor's set-up, 4 at the low level and 5 at the high one. The first tick looks
+   for a high channel, the second hands its slot over to the low level. */
+static void slots(void)
+{
+    motor();
+    CHECK(state[SLOT] == 2 && state[HIGH] == 6 && state[MIDDLE] == 0 && state[LOW] == 5);
+    CHECK(tpu_sm_advance(state, WORDS, LIST, pins, LIST) == TPU_SM_TAKEN);
+    CHECK(state[SLOT] == 3 && state[HIGH] == 6 && state[MIDDLE] == 0 && state[LOW] == 5);
+    CHECK(tpu_sm_advance(state, WORDS, 4, pins, LIST) == TPU_SM_TAKEN && state[SLOT] == 0);
+    CHECK(guards_stand());
 }
 
 /* A copy of the words goes on as the words do. */
@@ -248,15 +263,21 @@ static void copies(void)
 }
 
 /* Words that no call leaves: a refused call keeps them, a taken one drops unused flags, and times of phases without one.
-   Bits 5 and 6 of the flags are for TCR2. */
+   Bits 5 and 6 of the flags are for TCR2. A tick brings the slot below 7, and leaves the start of a level that it does not
+   serve. */
 static void odd_words(void)
 {
     begin();
     state[FLAGS + 3] = 0xFFE0;
     state[TIMES + 3] = 0x1234;
+    state[SLOT] = 0xFFFF;
+    state[LOW] = 0xABCD;
     refused(0xE0B, 0, TPU_SM_NO_SUCH_ADDRESS);
     CHECK(put(TPU_SM_CIER, 0) == TPU_SM_TAKEN);
     CHECK(state[FLAGS + 3] == 0x60 && state[TIMES + 3] == 0);
+    CHECK(state[SLOT] == 0xFFFF && state[LOW] == 0xABCD);
+    CHECK(tpu_sm_advance(state, WORDS, 1, pins, LIST) == TPU_SM_TAKEN);
+    CHECK(state[SLOT] == 2 && state[LOW] == 0xABCD);
     CHECK(guards_stand());
 }
 
@@ -270,6 +291,7 @@ int main(void)
     advances();
     moves();
     winders();
+    slots();
     copies();
     odd_words();
     return failures != 0;

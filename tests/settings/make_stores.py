@@ -4,9 +4,10 @@
     python3 tests/settings/make_stores.py            writes crates/settings_run/data/*, stdin and stdout
     python3 tests/settings/make_stores.py --check    compares them with what it would write
 
-It is written from request #102 and document 01 alone and has a model of its own: the words of the unit, requests for
-initialise, and moves of one step. A call outside that model stops it. Each save and load of the first part has its answer
-beside it, by hand, and the model has to give the same. The last part goes by chance, always the same.
+It is written from requests #102 and #107 and document 01 alone and has a model of its own: the words of the unit, requests
+for initialise, and moves of one step, with one channel at most to be served in a tick. A call outside that model stops it.
+Each save and load of the first part has its answer beside it, by hand, and the model has to give the same. The last part
+goes by chance, always the same.
 
 Lines of the calls: `F name` lends the store of that file and prints `F` and its length. `S` saves, `L` loads the newest and
 `L v` version v: they print the letter and the version, or `N` and the number. Behind a save stands each row of 32 bytes of
@@ -194,7 +195,7 @@ class Unit:
             return 6
         assert self.parameter(c, 4) == 1, "moves from MOD_CNT 0 only in this model"
         assert all(self.parameter(g, 0) == self.parameter(g, 1) for g in group)
-        assert 1 <= self.period(c) <= 0x7FFF and self.parameter(c, 3) == self.parameter(c, 2) + 1 <= 0xFFFE
+        assert 128 <= self.period(c) <= 0x7FFF and self.parameter(c, 3) == self.parameter(c, 2) + 1 <= 0xFFFE
         return 0
 
     def period(self, c):
@@ -207,9 +208,13 @@ class Unit:
             if move["match"] == self.tcr1:
                 for g in move["group"]:
                     self.set_pin(g, self.parameter(g, 0) >> 15)
-        for c in range(16):
-            if self.enabled(c):
-                self.serve(c)
+        ready = [c for c in range(16) if self.enabled(c) and self.asks(c)]
+        assert len(ready) <= 1, "one ready channel a tick in this model"
+        for c in ready:
+            self.serve(c)
+
+    def asks(self, c):
+        return c in self.pending or c in self.moves and self.moves[c]["match"] == self.tcr1
 
     def serve(self, c):
         kind = self.pending.pop(c, 0)
@@ -665,7 +670,7 @@ def bound_groups(s):
         for i, value in ((2, 100), (3, 101), (4, 0x0001), (5, 0x0100 + last)):
             s.parameter(c, i, value)
         s.parameter(c + 1, 2, 20)
-        s.parameter(c + 1, 3, 90)
+        s.parameter(c + 1, 3, 190)
         for g in range(c, last + 1):
             s.initialise(g)
             s.enable(0x5555)
@@ -685,7 +690,7 @@ def bound_groups(s):
         s.load("N 2")
         s.load("N 2", 1)
         s.save("S 2", into=1)
-        s.ticks(48)
+        s.ticks(148)
         s.load("N 2")
         s.ticks(4)
         s.read(CISR)
@@ -702,7 +707,7 @@ def bound_groups(s):
             s.initialise(g)
             s.ticks(1)
         s.step(c)
-        s.ticks(60)
+        s.ticks(160)
         s.write(CISR, 0xA5A5)
         s.read(CISR)
         s.load("L 1", 1)

@@ -9,9 +9,8 @@ use Rattle.unit.specs.declared.State.{State}
 use Rattle.unit.specs.TheUnit.{resetState}
 use Rattle.unit.specs.Calls.{Call, Read, Write, Advance, run}
 use Rattle.history.specs.Moments.{Typed}
-use Rattle.history.proofs.Listed.{term-3-of, always-of, slow-moves-of}
-use Rattle.isolation.specs.Isolated.{HappensIn}
-use Rattle.isolation.proofs.Runs.{words-in, isolated-of}
+use Rattle.history.proofs.Listed.{term-3-of, always-of, slow-moves-of, served-within-of}
+use Rattle.isolation.proofs.OneMove.{one-move-of}
 use Rattle.blocks.specs.Claims.{Bytes}
 use Rattle.blocks.proofs.SoundLaws.{word-fits}
 use Rattle.keeping.specs.declared.Chosen.{Chosen}
@@ -93,5 +92,6 @@ board-history =
       term-3 = term-3-of FromBoard from-board;
       always = always-of FromBoard from-board;
       slow-moves = slow-moves-of FromBoard from-board;
-      isolated = isolated-of (HappensIn FromBoard) (words-in FromBoard from-board);
+      served = served-within-of FromBoard from-board;
+      one-move = one-move-of FromBoard from-board;
     }

@@ -149,6 +149,7 @@ module _ (b : List ℕ) (k : ℕ) where
         registers = x .registers;
         pins = x .pins;
         clock = x .clock;
+        slots = x .slots;
         missing = x .missing;
         uninitialised = λ c h. uninitialised s c w h;
         kinds = x .kinds;

@@ -59,6 +59,7 @@ pub record Keeps (s t : State) : Type 0 where
   pub registers : (i : ℕ) → isSettingRegister i ≡ false → reg t i ≡ reg s i
   pub pins : t .pins ≡ s .pins
   pub clock : t .timers ≡ s .timers
+  pub slots : t .slots ≡ s .slots
   pub missing : (c i : ℕ) → i < 8 → exists c i ≡ false → word t c i ≡ word s c i
   pub kinds : (c : ℕ) → (channel t c) .kind ≡ (channel s c) .kind
   pub timers : (c : ℕ) → (channel t c) .timer ≡ (channel s c) .timer
@@ -68,7 +69,7 @@ pub record Keeps (s t : State) : Type 0 where
 
 pub keeps-refl : (s : State) → Keeps s s
 keeps-refl s =
-    record { registers = λ i e. refl; pins = refl; clock = refl; missing = λ c i l e. refl; kinds = λ c. refl; timers = λ c. refl; levels = λ c. refl; ways = λ c. refl; phases = λ c. refl }
+    record { registers = λ i e. refl; pins = refl; clock = refl; slots = refl; missing = λ c i l e. refl; kinds = λ c. refl; timers = λ c. refl; levels = λ c. refl; ways = λ c. refl; phases = λ c. refl }
 
 pub keeps-trans : (s t w : State) → Keeps s t → Keeps t w → Keeps s w
 keeps-trans s t w x y =
@@ -76,6 +77,7 @@ keeps-trans s t w x y =
       registers = λ i e. y .registers i e ∙ x .registers i e;
       pins = y .pins ∙ x .pins;
       clock = y .clock ∙ x .clock;
+      slots = y .slots ∙ x .slots;
       missing = λ c i l e. y .missing c i l e ∙ x .missing c i l e;
       kinds = λ c. y .kinds c ∙ x .kinds c;
       timers = λ c. y .timers c ∙ x .timers c;
@@ -91,6 +93,7 @@ put-keeps s (AtRegister i) v x =
       registers = λ k e. reg-other s i v k (λ q. not-both x (subst (λ j. isSettingRegister j ≡ false) q e));
       pins = refl;
       clock = refl;
+      slots = refl;
       missing = λ c k l e. refl;
       kinds = λ c. refl;
       timers = λ c. refl;
@@ -104,6 +107,7 @@ put-keeps s (AtWord c i) v x =
       registers = λ k e. ap (λ r. getD r k 0) (y .registers);
       pins = y .pins;
       clock = y .clock;
+      slots = y .slots;
       missing = λ d k l e. y .words d k (λ q. apart c i d k (x .1) l (x .2) e q);
       kinds = y .kinds;
       timers = y .timers;

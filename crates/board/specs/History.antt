@@ -11,7 +11,8 @@ use Rattle.history.specs.Moments.{Typed}
 use Rattle.history.specs.Term3.{Term3Of}
 use Rattle.history.specs.SlowMoves.{SlowMovesOf}
 use Rattle.history.specs.Always.{AlwaysOf}
-use Rattle.isolation.specs.Isolated.{HappensIn, IsolatedOf}
+use Rattle.history.specs.Served.{ServedWithinOf}
+use Rattle.isolation.specs.OneMove.{OneMoveOf}
 use Rattle.blocks.specs.Claims.{Bytes}
 use Rattle.keeping.specs.declared.Which.{Which}
 use Rattle.keeping.specs.declared.Chosen.{Chosen}
@@ -66,8 +67,9 @@ pub record BoardHistory : Type 0 where
   -- after a list of the board's calls the state is that after the unit's calls to which it comes, and so with each part of it
   pub returns : (s : State) (xs : List BoardCall) → boardRun s xs ≡ run s (allCalls s xs)
   pub parts : (s : State) (xs ys : List BoardCall) → allCalls s (xs ++ ys) ≡ allCalls s xs ++ allCalls (boardRun s xs) ys
-  -- term 3, what always holds, the speeds of #103, and #105, of every list of the board's calls
+  -- term 3, what always holds, the speeds of #103, the 112 ticks of #107, and #105 as it restates it, of every list of the board's calls
   pub term-3 : Term3Of FromBoard
   pub always : AlwaysOf FromBoard
   pub slow-moves : SlowMovesOf FromBoard
-  pub isolated : IsolatedOf (HappensIn FromBoard)
+  pub served : ServedWithinOf FromBoard
+  pub one-move : OneMoveOf FromBoard

@@ -60,11 +60,12 @@ pub record ToLoad (b : List ℕ) (w : Which) (k : ℕ) : Type 0 where
 
 -- ---- the unit after it
 
--- what a load leaves alone, from s to t: HSRR, CISR, CIER, HSQR, pins, timers, missing words, and of a channel all but that it is uninitialised
+-- what a load leaves alone, from s to t: HSRR, CISR, CIER, HSQR, pins, timers, slots, missing words, and of a channel all but that it is uninitialised
 pub record Leaves (s t : State) : Type 0 where
   pub registers : (i : ℕ) → isSettingRegister i ≡ false → reg t i ≡ reg s i
   pub pins : t .pins ≡ s .pins
   pub clock : t .timers ≡ s .timers
+  pub slots : t .slots ≡ s .slots
   pub missing : (c i : ℕ) → i < 8 → exists c i ≡ false → word t c i ≡ word s c i
   pub uninitialised : (c : ℕ) → c < 16 → (channel t c) .initialised ≡ false
   pub kinds : (c : ℕ) → (channel t c) .kind ≡ (channel s c) .kind

@@ -56,7 +56,7 @@ pub fn with_level(x: Channel, on: bool) -> Channel
     }
 }
 
-pub fn in_phase(x: Channel, way: Way, phase: Phase) -> Channel
+fn in_phase(x: Channel, way: Way, phase: Phase) -> Channel
     ensures { λ r. ⌜ r ≡ inPhase x way phase ⌝ }
 {
     let kind = x.kind;

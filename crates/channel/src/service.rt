@@ -1,9 +1,6 @@
-// The service of a channel: whether it is asked for, what it decides, and its status bit.
+// The service of a channel: whether its motor is tested, what that decides, and its status bit.
 ghost use mathlib.Core.Path.{_≡_};
-ghost use mathlib.Core.Bool.{false};
 ghost use Prim.Native.Nat.{_%_};
-ghost use lib.Dec.{leb};
-ghost use Rattle.words.specs.Choice.{pick};
 ghost use Rattle.channel.specs.Service.{stirs, isTested, reference, decided, statusAfter};
 use crate::pending;
 use motor::Motor;
@@ -28,20 +25,10 @@ pub fn stirs(p: Phase, now: u16) -> bool
     pending::is_matched(p)
 }
 
-// A request of an enabled channel.
-pub fn is_asked(on: bool, r: u16) -> bool
-    ensures { λ out. ⌜ out ≡ pick on (leb 2 r) false ⌝ }
+// A motor is tested by its request to step unless it is stepping, or by its match. The phase is that before the request.
+pub fn is_tested(r: u16, p: Phase) -> bool
+    ensures { λ out. ⌜ out ≡ isTested r p ⌝ }
 {
-    if on { 2 <= r } else { false }
-}
-
-// An enabled motor is tested by its request to step unless it is stepping, or by its match. The phase is that before the request.
-pub fn is_tested(on: bool, r: u16, p: Phase) -> bool
-    ensures { λ out. ⌜ out ≡ isTested on r p ⌝ }
-{
-    if !on {
-        return false;
-    }
     match p {
         Phase::Resting => r == 3,
         Phase::Requested => r == 3,

@@ -5,6 +5,9 @@ use Rattle.motor.specs.Track.{OneStep}
 use Rattle.motor.specs.Group.{OneTick}
 use Rattle.motor.specs.GroupCount.{EveryCount}
 use Rattle.motor.specs.SlowMoves as motor
+use Rattle.motor.specs.Schedule.{Schedules}
+use Rattle.slots.specs.Claims.{OneService}
+use Rattle.slots.specs.Rows.{SlotRows}
 use Rattle.unit.specs.Readings.{Readings}
 use Rattle.unit.specs.Takes.{Takes}
 use Rattle.unit.specs.Passing.{TimePasses}
@@ -13,12 +16,14 @@ use Rattle.unit.specs.Rows.{Rows}
 use Rattle.history.specs.Leaves.{WritesLeave}
 use Rattle.history.specs.Always.{Always}
 use Rattle.history.specs.Timers.{TimersCount}
+use Rattle.history.specs.Served.{ServedWithin}
 use Rattle.history.specs.Term3.{CallsAre, Term3}
 use Rattle.history.specs.SlowMoves as history
-use Rattle.isolation.specs.Isolated.{Isolated}
+use Rattle.isolation.specs.OneMove.{OneMove}
+use Rattle.moves.specs.Moves.{Moves}
+use Rattle.moves.specs.Trap.{Trap}
 use Rattle.trials.specs.Trials.{Trials}
 use Rattle.trials.specs.History.{Met}
-use Rattle.trials.specs.Frames.{Frames, Across}
 use Rattle.trials.specs.Winder.{Winds}
 use Rattle.text.specs.Claims.{DecimalShort}
 use Rattle.parse.specs.Claims as parse
@@ -110,18 +115,26 @@ pub record RateCount : Type 0 where
   pub moves : motor.SlowMoves
   pub history : history.SlowMoves
 
--- request #105: every two lists of calls; two that meet its premises; and what would be wrong without the one about groups. `history` of
--- `Settings` has it with saves and loads
+-- request #105 as #107 restates it: one move in every two lists of calls; two that meet its premises; and what would be wrong if targets
+-- counted from the request only. `history` of `Settings` has it with saves and loads
 pub record TwoFrames : Type 0 where
-  pub isolated : Isolated
-  pub frames : Frames
-  pub across : Across
+  pub one-move : OneMove
+  pub moves : Moves
+  pub trap : Trap
 
 -- request #106: what both timers show, and a winder that comes home. Kinds, groups and waits by either timer are said in `takes`,
 -- `writes`, `always` and `term-3`
 pub record TwoTimers : Type 0 where
   pub count : TimersCount
   pub winds : Winds
+
+-- request #107: whom a slot goes to, slots computed, the 112 ticks in every list of calls, and when the matches of a move fall however late its services are.
+-- `history` of `Settings` has the 112 with saves and loads; what one tick serves is said in `always` and `term-3`
+pub record OneAtATime : Type 0 where
+  pub slots : OneService
+  pub rows : SlotRows
+  pub served : ServedWithin
+  pub schedules : Schedules
 
 pub record Delivered : Type 0 where
   pub term-1 : EveryCall
@@ -133,3 +146,4 @@ pub record Delivered : Type 0 where
   pub rate-count : RateCount
   pub two-frames : TwoFrames
   pub two-timers : TwoTimers
+  pub one-service : OneAtATime

@@ -3,10 +3,10 @@ ghost use mathlib.Core.Path.{_≡_};
 ghost use mathlib.Core.Bool.{_&&_};
 ghost use lib.Dec.{eqb};
 ghost use Prim.Native.Nat.{_<_, _≤_};
-ghost use Rattle.unit.specs.TheUnit.{request, stepping, cntl0, cntl1, top};
+ghost use Rattle.unit.specs.TheUnit.{request, stepping};
 ghost use Rattle.words.specs.Choice.{ask};
-ghost use Rattle.unit.specs.Gate.{Yes, No, isStepper, rampGood, requested, askInitialise, askStep, askChannel, andThen, askChannels};
-ghost use Rattle.gate.specs.Told.{told};
+ghost use Rattle.unit.specs.Gate.{Yes, No, isStepper, requested, askInitialise, askStep, askChannel, andThen, askChannels};
+ghost use Rattle.gate.specs.Told.{told, askRamp};
 use access::parameters;
 use access::registers;
 use unit::Answer;
@@ -49,19 +49,28 @@ fn ask_again(s: State, c: u16) -> Answer
     Answer::Taken
 }
 
-// Question 8 of the primary c: the next channel has STEP_CNTL0 and STEP_CNTL1.
-fn ramp_stands(s: State, c: u16) -> bool
+// The questions of the ramp, 8 and 14, then 9. The channel after the primary has STEP_CNTL0 and STEP_CNTL1.
+fn ask_ramp(s: State, c: u16) -> Answer
     requires { ⌜ c < 16 ⌝ }
-    ensures { λ r. ⌜ r ≡ rampGood (cntl0 s c) (cntl1 s c) (top s c) ⌝ }
+    ensures { λ r. ⌜ told r (requested s c 3) ≡ askRamp s c ⌝ }
 {
-    questions::ramp_good(
-        parameters::word(s, c + 1, 2),
-        parameters::word(s, c + 1, 3),
-        parameters::top(s, c),
-    )
+    let cntl0 = parameters::word(s, c + 1, 2);
+    let cntl1 = parameters::word(s, c + 1, 3);
+    let n = parameters::top(s, c);
+    let target = parameters::word(s, c, 3);
+    if !questions::ramp_good(cntl0, cntl1, n) {
+        return Answer::Refused(8);
+    }
+    if !questions::quick_good(cntl0, cntl1, n) {
+        return Answer::Refused(14);
+    }
+    if !questions::target_good(s, c, target) {
+        return Answer::Refused(9);
+    }
+    Answer::Taken
 }
 
-// Questions 2, 3 and 5 to 9; of a request that comes again, question 3.
+// Questions 2, 3 and 5 to 7, then the last ones; of a request that comes again, question 3.
 fn ask_step(s: State, c: u16) -> Answer
     requires { ⌜ c < 16 ⌝ }
     ensures { λ r. ⌜ told r (requested s c 3) ≡ askStep s c ⌝ }
@@ -84,13 +93,7 @@ fn ask_step(s: State, c: u16) -> Answer
     if !questions::pattern_good(s, c) {
         return Answer::Refused(7);
     }
-    if !ramp_stands(s, c) {
-        return Answer::Refused(8);
-    }
-    if !questions::target_good(s, c, parameters::word(s, c, 3)) {
-        return Answer::Refused(9);
-    }
-    Answer::Taken
+    ask_ramp(s, c)
 }
 
 // Channel c with its two bits r of the word.

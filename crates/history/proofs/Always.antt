@@ -12,21 +12,22 @@ use Rattle.words.specs.Field.{field, bitOf}
 use Rattle.words.proofs.ChoiceLaws.{pick-cases, not-both, fails, and-left, and-right}
 use Rattle.unit.specs.declared.State.{State}
 use Rattle.unit.specs.declared.Channel.{Channel}
-use Rattle.unit.specs.TheUnit.{reg, cprOf, enabled, status, word, hsrrOf, pin, reaches, isBound, last, idle, resetState, request, channel, channelControl, kindIn, pinControl, position, stepping}
-use Rattle.history.specs.OneStep.{isPast, clockOf, Enabled, actsAt, pinAfterMatch, StepIs, StillIs}
+use Rattle.unit.specs.TheUnit.{reg, status, word, hsrrOf, pin, reaches, isBound, last, idle, resetState, request, channel, channelControl, kindIn, pinControl, position, stepping}
+use Rattle.history.specs.OneStep.{isPast, clockOf, IsServed, actsAt, pinAfterMatch, StepIs, StillIs}
 use Rattle.unit.specs.OneTick.{tick}
 use Rattle.unit.specs.Gate.{isTimed, mayInitialise}
 use Rattle.unit.specs.Calls.{Call}
-use Rattle.history.specs.Moments.{Act, Ticks as ticks, Writes as writes, Nothing as nothing, does, through, priorityOf}
+use Rattle.history.specs.Moments.{Act, Ticks as ticks, Writes as writes, Nothing as nothing, does, through}
 use Rattle.history.specs.Always.{GroupShown, OneKind, StateOf, ByInitialise, ByMatch, Pending, LeavesWords, InitialiseIs, Untouched, Always}
 use Rattle.history.proofs.Alone.{Fades, fades-tick}
 use Rattle.history.proofs.Held.{Held}
+use Rattle.history.proofs.Ticks.{ours}
 use Rattle.history.proofs.Parts.{Part, part}
 use Rattle.history.proofs.WholeSteps.{on-enabled, tick-is}
 use Rattle.history.proofs.Pins.{initialisedPart, Initialises}
 use Rattle.history.proofs.Begin.{unreached, unbound-still}
 use Rattle.history.proofs.Asked.{asked}
-use Rattle.history.proofs.Initialise.{Settled, settled}
+use Rattle.history.proofs.Initialise.{request-done, request-waits, Settled, settled}
 use Rattle.history.proofs.Lit.{Lit, ReachedBy, reached-by, tick-outcome, initialised-pin, lit-tick}
 use Rattle.unit.proofs.Reset.{same-all}
 use Rattle.unit.proofs.Passing.{time-passes}
@@ -49,10 +50,13 @@ every-tick s f e p l g =
       kinds-kept p s (tick s) (d .spans p) (λ j a b. kind-tick p j s f (h .0) a b) (time-passes .named s p) (h .2),
     )
 
+pub good-tick : (s : State) → Good s → Good (tick s)
+good-tick s x = (fine-tick s (x .0), every-tick s (x .0) (x .1), lit-tick s (x .0) (x .1) (x .2))
+
 good-through : (xs : List Act) (s : State) → Words xs → Good s → Good (through s xs)
 unfolding through does Words
 good-through [] s w x = x
-good-through (ticks ∷ xs) s w x = good-through xs (tick s) w (fine-tick s (x .0), every-tick s (x .0) (x .1), lit-tick s (x .0) (x .1) (x .2))
+good-through (ticks ∷ xs) s w x = good-through xs (tick s) w (good-tick s x)
 good-through (writes a v ∷ xs) s w x = good-through xs _ (w .1) (good-write a v s (w .0) x)
 good-through (nothing ∷ xs) s w x = good-through xs s w x
 
@@ -74,7 +78,7 @@ lit-reset =
 state-words : (calls : List Call) (s : State) → (x : StateOf calls s) → Words (x .before)
 state-words calls s x = words-first (x .before) (x .rest) (subst Words (x .cut) (words-acts calls (x .listed)))
 
-state-good : (calls : List Call) (s : State) → StateOf calls s → Good s
+pub state-good : (calls : List Call) (s : State) → StateOf calls s → Good s
 state-good calls s x = subst Good (sym (x .reached)) (good-through (x .before) resetState (state-words calls s x) (fine-reset, every-reset, lit-reset))
 
 moves-only : (calls : List Call) (s : State) → StateOf calls s → (p : ℕ) → p < 16 → position (tick s) p ≢ position s p → (b : Bool) → stepping s p ≡ b → (stepping s p ≡ true) × GroupShown p s
@@ -125,35 +129,23 @@ settles : (calls : List Call) (s : State) → StateOf calls s → (j : ℕ) → 
 settles calls s x j l u = let f : Fine s = state-good calls s x .0 in settled j s l (f .sized) (f .going) (unbound-still j s u) (unreached j s (f .sized) u)
 
 kinds-only : (calls : List Call) (s : State) → StateOf calls s → (j : ℕ) → j < 16 → (channel (tick s) j) .kind ≢ (channel s j) .kind
-    → (b : Bool) → isBound s j ≡ b → Pending j s × Enabled j s
-unfolding Every part Pending request hsrrOf
+    → (b : Bool) → isBound s j ≡ b → Pending j s × IsServed j s
+unfolding Every part Pending request hsrrOf IsServed ours
 kinds-only calls s x j l n true t =
     let e : Every s = (state-good calls s x) .1 in
     let r : ReachedBy j s = reached-by j s l e t in
     absurd (n (kind-tick (r .primary) j s (state-good calls s x .0) ((e (r .primary) (r .small) (r .up)) .0) (r .above) (r .below)))
-kinds-only calls s x j l n false t = by (eqb (request s j) 2) refl (enabled s j) refl
+kinds-only calls s x j l n false t = by (eqb (request s j) 2) refl (ours j s) refl
   where
-    kept : (request s j ≡ 2 → enabled s j ≡ false) → Pending j s × Enabled j s
+    kept : (request s j ≡ 2 → ours j s ≡ false) → Pending j s × IsServed j s
     kept o = absurd (n (ap (λ (y : Part). y .kind) (settles calls s x j l t .part-not o)))
 
-    by : (p : Bool) → eqb (request s j) 2 ≡ p → (b : Bool) → enabled s j ≡ b → Pending j s × Enabled j s
-    by true p true e = (eqb-true _ 2 p, on-enabled j s e)
+    by : (p : Bool) → eqb (request s j) 2 ≡ p → (b : Bool) → ours j s ≡ b → Pending j s × IsServed j s
+    by true p true e = (eqb-true _ 2 p, e)
     by true p false e = kept (λ q. e)
     by false p b e = kept (λ q. absurd (eqb-false _ 2 p q))
 
 -- ---- initialise
-
-enabled-is : (j : ℕ) (s : State) → Enabled j s → enabled s j ≡ true
-unfolding enabled Enabled priorityOf cprOf
-enabled-is j s e = rw (ne-eqb _ 0 e)
-
-disabled-is : (j : ℕ) (s : State) → (Enabled j s → ⊥) → enabled s j ≡ false
-unfolding enabled Enabled priorityOf cprOf
-disabled-is j s n = by (eqb (field 2 (reg s (9 + (1 - j / 8))) (2 * (j % 8))) 0) refl
-  where
-    by : (b : Bool) → eqb (field 2 (reg s (9 + (1 - j / 8))) (2 * (j % 8))) 0 ≡ b → not b ≡ false
-    by true t = refl
-    by false t = absurd (n (eqb-false _ 0 t))
 
 -- of a channel that is not bound a tick leaves every word but CHANNEL_CONTROL, and sets nothing going
 leaves-words : (calls : List Call) (s : State) → StateOf calls s → (j : ℕ) → isBound s j ≡ false → LeavesWords j s (tick s)
@@ -163,9 +155,9 @@ leaves-words calls s x j u =
     let r : stepping s j ≡ false = unbound-still j s u in
     record { words = λ i a b. d .places j i a b r; rests = fails (stepping (tick s) j) (λ e. not-both (d .still j e) r) }
 
-initialise-is : (j : ℕ) (s t : State) → Settled j s t → LeavesWords j s t → mayInitialise s j ≡ true → request s j ≡ 2 → enabled s j ≡ true → InitialiseIs j s t
+initialise-is : (j : ℕ) (s t : State) → Settled j s t → LeavesWords j s t → mayInitialise s j ≡ true → request s j ≡ 2 → ours j s ≡ true → request t j ≡ 0 → InitialiseIs j s t
 unfolding part initialisedPart kindIn channelControl pinControl mayInitialise isTimed status request hsrrOf bitOf
-initialise-is j s t x o m p e =
+initialise-is j s t x o m p e r =
     let q : part j j t ≡ initialisedPart (part j j s) = x .part-both p e in
     let v : field 2 (word s j 0) 0 ≡ pick (eqb (field 1 (word s j 1) 15) 1) 1 2 = eqb-true _ _ (and-right (eqb (field 4 (word s j 0) 5) 4 || eqb (field 4 (word s j 0) 5) 7) _ m) in
     record {
@@ -179,17 +171,17 @@ initialise-is j s t x o m p e =
       slow = λ b. ap (λ (y : Part). y .kind) q ∙ rw (eq-eqb (field 4 (word s j 0) 5) 7 b) refl;
       timed = either (field 4 (word s j 0) 5) 4 7 (and-left (eqb (field 4 (word s j 0) 5) 4 || eqb (field 4 (word s j 0) 5) 7) _ m);
       status = eqb-true (field 1 (reg t 11) j) 1 (x .status-both p e);
-      gone = x .request-both p e;
+      gone = r;
     }
 
-untouched-is : (j : ℕ) (s t : State) → Settled j s t → LeavesWords j s t → (request s j ≡ 2 → enabled s j ≡ false) → Untouched j s t
+untouched-is : (j : ℕ) (s t : State) → Settled j s t → LeavesWords j s t → (request s j ≡ 2 → ours j s ≡ false) → Untouched j s t
 unfolding part channelControl pinControl status
 untouched-is j s t x o n =
     let q : part j j t ≡ part j j s = x .part-not n in
     record { pin = ap (λ (y : Part). y .pin) q; control = ap (λ (y : Part). y .control) q; others = o; set-up = ap (λ (y : Part). y .initialised) q; status = x .status-not n }
 
 pub always : Always
-unfolding Every channelControl Pending request hsrrOf
+unfolding Every channelControl Pending request hsrrOf IsServed ours
 always =
     record {
       shown = λ calls s x p l g. ((state-good calls s x) .1 p l g) .1;
@@ -199,8 +191,14 @@ always =
       moves = λ calls s x p l n. moves-only calls s x p l n (stepping s p) refl;
       under-way = λ calls s x. (state-good calls s x) .0 .going;
       questions = λ calls s x c a v g. asked c a v s (state-good calls s x .0) g;
-      initialises = λ calls s x j l p e. let y : (mayInitialise s j ≡ true) × (isBound s j ≡ false) = (state-good calls s x) .2 .asked j l p in initialise-is j s (tick s) (settles calls s x j l (y .1)) (leaves-words calls s x j (y .1)) (y .0) p (enabled-is j s e);
+      enabled = λ calls s x j l o. on-enabled j s o;
+      initialises = λ calls s x j l p e.
+          let f : Good s = state-good calls s x in
+          let y : (mayInitialise s j ≡ true) × (isBound s j ≡ false) = f .2 .asked j l p in
+          initialise-is j s (tick s) (settles calls s x j l (y .1)) (leaves-words calls s x j (y .1)) (y .0) p e
+          (request-done j s l (f .0 .sized) (f .0 .going) (omega (arith, p)) e);
       kinds = λ calls s x j l n. kinds-only calls s x j l n (isBound s j) refl;
-      untouched = λ calls s x j l u n. untouched-is j s (tick s) (settles calls s x j l u) (leaves-words calls s x j u) (λ p. disabled-is j s (n p));
-      waits = λ calls s x j l p n. let y : (mayInitialise s j ≡ true) × (isBound s j ≡ false) = (state-good calls s x) .2 .asked j l p in (settles calls s x j l (y .1)) .request-off (disabled-is j s n) ∙ p;
+      untouched = λ calls s x j l u n. untouched-is j s (tick s) (settles calls s x j l u) (leaves-words calls s x j u) (λ p. fails (ours j s) (n p));
+      done = λ calls s x j l. let f : Fine s = state-good calls s x .0 in request-done j s l (f .sized) (f .going);
+      waits = λ calls s x j l n. let f : Fine s = state-good calls s x .0 in request-waits j s l (f .sized) (f .going) (fails (ours j s) n);
     }

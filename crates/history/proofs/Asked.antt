@@ -107,7 +107,7 @@ module _ (n i v : ℕ) (s : State) (f : Fine s) (l : n ≤ 8) (a : 7 ≤ i) (b :
 -- ---- in an HSRR word
 
 allowed : (c : ℕ) (s : State) → Fine s → Allowed c s → MayStep c s
-allowed c s f q = step-may c s (f .small) (q .span) (q .group) (q .pattern) (q .ramp) (q .target)
+allowed c s f q = step-may c s (f .small) (q .span) (q .group) (q .pattern) (q .ramp) (q .quick) (q .target)
 
 asked-next : (n i c v : ℕ) (s : State) → n ≤ 8 → 7 ≤ i → i ≤ 8 → c ≡ 8 * (8 - i) + n → field 2 v (2 * (c % 8)) ≡ 3 → Fine s → stepping s c ≡ false
     → IfYes (λ x. MayStep c s) (andThen (askChannels n (8 * (8 - i)) v s) (askChannel (field 2 v (2 * ((8 * (8 - i) + n) % 8))) (8 * (8 - i) + n)))

@@ -5,7 +5,7 @@ use native.Mathlib.Nat.{eq-or-lt-of-le}
 use mathlib.Core.Bool.{Bool, true, false, _&&_}
 use mathlib.Core.List.{List, [], _∷_, _++_}
 use mathlib.Core.Path.{_≡_, refl, ap, sym, subst, _∙_}
-use mathlib.Core.Logic.{⊎-elim}
+use mathlib.Core.Logic.{_≢_, ⊎-elim}
 use lib.Dec.{eqb, leb}
 use lib.ListN.{getD, take, drop}
 use borrow.Author.Tests.{eqb-true, eqb-false, le-leb}
@@ -18,7 +18,7 @@ use Rattle.words.proofs.ChoiceLaws.{not-both, fails, tests, and-left, and-right
 use Rattle.motor.specs.Group.{Group, bound, aimed}
 use Rattle.motor.specs.Stepping.{period}
 use Rattle.motor.specs.Group as group
-use Rattle.motor.specs.Count.{Tick, Target, Other, isTarget, Sight, Moment, Event, UnderWay, UpToArrival, Running, Enabled, NoTarget, Undisturbed, Dark, EndsInTick, Standing, SlowBefore, movesIn, latest, stopOf, stepsOf, steps, ticksOf, ticksIn, Linked, after, Counted, Arrives}
+use Rattle.motor.specs.Count.{Tick, Target, Other, isTarget, Sight, Moment, Event, UnderWay, UpToArrival, Running, Keeps, NoTarget, Undisturbed, Dark, EndsInTick, Standing, SlowBefore, movesIn, latest, stopOf, stepsOf, steps, ticksOf, ticksIn, longestWait, Linked, after, Counted, Arrives}
 use Rattle.motor.specs.Track.{distance}
 use Rattle.motor.specs.GroupCount.{next, final}
 use Rattle.motor.specs.GroupCount as group-count
@@ -190,7 +190,7 @@ keeps-bound c x s h ticks = by (y .act) (y .group) (y .event)
     up = h .up
 
     by : (a : group-count.Act) → (view (does x s) c) .group ≡ next a ((view s c) .group) → eventOf c x s ≡ group-count.eventOf a → isBound (does x s) c ≡ true
-    by group-count.Ticks g e = ticks e
+    by (group-count.Ticks o q) g e = ticks e
     by (group-count.Aims t) g e = same (ap (λ (z : Group). bound (z .phase)) g ∙ up)
     by (group-count.Alters a b) g e = same (ap (λ (z : Group). bound (z .phase)) g ∙ up)
 
@@ -336,16 +336,16 @@ module _ (calls : List Call) (before gone now rest : List Act) (c a v b x : ℕ)
         subst (λ y. UpToArrival (moments c y now) → NoTarget (moments c y now) → (target w c ≡ x) × Counted (longestStep c y) (see c t) (moments c t (gone ++ (Writes b x ∷ []))) (moments c y now)) count-from
         (λ n free. (target-aims, counts run-to target-cut (now-by run-to target-cut n) free))
 
-arrivals : (r : Run) → Cut r → Enabled (momentsGone r) → Undisturbed (momentsNow r)
-    → 1 + longestStep (r .c) (atCount r) * (steps (see (r .c) (atStart r)) (momentsGone r) + 1) ≤ ticksIn (momentsNow r)
+arrivals : (r : Run) → Cut r → (l : ℕ) → l ≢ 0 → Keeps l (momentsGone r) → Undisturbed l (momentsNow r)
+    → longestWait (longestStep (r .c) (atCount r)) (steps (see (r .c) (atStart r)) (momentsGone r)) ≤ ticksIn (momentsNow r)
     → Arrives (see (r .c) (atStart r)) (momentsGone r) (momentsNow r)
-arrivals r k on u enough =
+arrivals r k l some on u enough =
     arrives (longestStep (r .c) (atCount r)) (see (r .c) (atStart r)) (momentsGone r) (momentsNow r)
     (subst (λ v. Linked v (momentsNow r)) (sym (after-moments (r .c) (atStart r) (r .gone))) (linked (r .c) (atCount r) (r .now)))
     (λ n run free. let e : take n (momentsNow r) ≡ moments (r .c) (atCount r) (take n (r .now)) = take-moments n (r .c) (atCount r) (r .now) in
     subst (λ ms. Counted (longestStep (r .c) (atCount r)) (see (r .c) (atStart r)) (momentsGone r) ms) (sym e)
     (run-counted (r .c) (atStart r) (r .gone) (take n (r .now)) (begun r k) (gone-by r k .0) (gone-by r k .1) (subst Running e run) (subst NoTarget e free)))
-    on u enough
+    l some on u enough
 
 -- ---- from the request to the target
 
@@ -381,12 +381,12 @@ unfolding moments ticksIn
 ticks-first c s [] ys = omega arith
 ticks-first c s (x ∷ xs) ys = omega (arith, ticks-first c (does x s) xs ys)
 
-calm-first : (c : ℕ) (s : State) (xs ys : List Act) → Enabled (moments c s (xs ++ ys)) → NoTarget (moments c s (xs ++ ys)) → Undisturbed (moments c s xs)
-unfolding moments Enabled NoTarget Undisturbed
-calm-first c s [] ys e n = tt
-calm-first c s (x ∷ xs) ys e n = λ b. (e .0, n .0, calm-first c (does x s) xs ys (e .1) (n .1))
+calm-first : (l c : ℕ) (s : State) (xs ys : List Act) → Keeps l (moments c s (xs ++ ys)) → NoTarget (moments c s (xs ++ ys)) → Undisturbed l (moments c s xs)
+unfolding moments Keeps NoTarget Undisturbed
+calm-first l c s [] ys e n = tt
+calm-first l c s (x ∷ xs) ys e n = λ b. (e .0, n .0, calm-first l c (does x s) xs ys (e .1) (n .1))
 
-home : (c : ℕ) (t : State) (first later : List Act) → ticksIn (moments c t first) ≤ 1 + longestStep c t * (distance (position t c) (target t c) + 1)
+home : (c : ℕ) (t : State) (first later : List Act) → ticksIn (moments c t first) ≤ longestWait (longestStep c t) (distance (position t c) (target t c))
     → Arrives (see c t) [] (moments c t first) → Homed c t (first ++ later)
 unfolding after see
 home c t first later n k =
@@ -412,21 +412,21 @@ homes : (calls : List Call) (before now rest : List Act) (c a v : ℕ)
     → let s : State = through resetState before in
     let t : State = does (Writes a v) s in
     Typed calls → acts calls ≡ before ++ (Writes a v ∷ (now ++ rest)) → SetsGoing c a v s
-    → Enabled (moments c t now) → NoTarget (moments c t now)
-    → 1 + longestStep c t * (distance (position t c) (target t c) + 1) ≤ ticksIn (moments c t now)
+    → (n : ℕ) → n ≢ 0 → Keeps n (moments c t now) → NoTarget (moments c t now)
+    → longestWait (longestStep c t) (distance (position t c) (target t c)) ≤ ticksIn (moments c t now)
     → Homed c t now
-unfolding movesIn latest stepsOf stopOf SlowBefore moments Enabled NoTarget Running after through see UpToArrival
-homes calls before now rest c a v l e g on free enough =
+unfolding movesIn latest stepsOf stopOf SlowBefore moments Keeps NoTarget Running after through see UpToArrival
+homes calls before now rest c a v l e g n some on free enough =
     let t : State = does (Writes a v) (through resetState before) in
-    let k : Split c t now (1 + longestStep c t * (distance (position t c) (target t c) + 1)) = split c now t _ enough in
+    let k : Split c t now (longestWait (longestStep c t) (distance (position t c) (target t c))) = split c now t _ enough in
     let r : Run = record { calls = calls; c = c; a = a; v = v; before = before; gone = []; now = k .first; rest = k .later ++ rest } in
     let w : acts calls ≡ before ++ (Writes a v ∷ (k .first ++ (k .later ++ rest))) =
     e ∙ ap (λ z. before ++ (Writes a v ∷ (z ++ rest))) (k .parts) ∙ ap (λ z. before ++ (Writes a v ∷ z)) (append-assoc (k .first) (k .later) rest) in
     let slow : nextRate t c ≡ 1 = (request-counts calls before [] (now ++ rest) c a v l e g tt tt) .first-slow in
-    let x : Undisturbed (moments c t (k .first)) = calm-first c t (k .first) (k .later) (subst (λ z. Enabled (moments c t z)) (k .parts) on) (subst (λ z. NoTarget (moments c t z)) (k .parts) free) in
+    let x : Undisturbed n (moments c t (k .first)) = calm-first n c t (k .first) (k .later) (subst (λ z. Keeps n (moments c t z)) (k .parts) on) (subst (λ z. NoTarget (moments c t z)) (k .parts) free) in
     subst (Homed c t) (sym (k .parts))
     (home c t (k .first) (k .later) (omega (arith, k .ticks))
-    (arrivals r (request-cut calls before (k .first) (k .later ++ rest) c a v l w g) tt x (rw slow (omega (arith, k .ticks)))))
+    (arrivals r (request-cut calls before (k .first) (k .later ++ rest) c a v l w g) n some tt x (rw slow (omega (arith, k .ticks)))))
 
 pub term-3 : Term3
 term-3 =

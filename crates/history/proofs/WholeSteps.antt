@@ -34,21 +34,22 @@ use Rattle.motor.proofs.Decided.{request-decides, match-decides}
 use Rattle.motor.proofs.OneStep.{one-step}
 use Rattle.motor.proofs.OneTick.{happened-requested, period-bounds}
 use Rattle.unit.specs.declared.State.{State}
-use Rattle.unit.specs.TheUnit.{cprOf, timeFor, pin, channel, word, channelControl, pinControl, position, target, modCount, nextRate, top, last, cntl0, cntl1, enabled, motorOf}
+use Rattle.unit.specs.TheUnit.{cprOf, timeFor, pin, channel, word, channelControl, pinControl, position, target, modCount, nextRate, top, last, cntl0, cntl1, priority, motorOf}
 use Rattle.unit.specs.Stepping.{nextCount, turnedOnce}
 use Rattle.unit.specs.OneTick.{tick}
 use Rattle.history.specs.Moments.{Act, Ticks, Writes, Nothing as nothing, does, priorityOf, moments}
-use Rattle.history.specs.OneStep.{isPast, shownBy, clockOf, actsAt, unserved, pinAfterMatch, Enabled, placesAhead, Sets, GoesOn, CountMoves, BitsTurn, topBit, ChannelSteps, MatchIs, StepIs, ChannelKeeps, StillIs, WholeSteps}
+use Rattle.history.specs.OneStep.{isPast, shownBy, clockOf, actsAt, unserved, isPending, pinAfterMatch, Enabled, IsServed, placesAhead, Sets, GoesOn, CountMoves, BitsTurn, topBit, ChannelSteps, MatchIs, StepIs, ChannelKeeps, StillIs, WholeSteps}
 use Rattle.unit.proofs.Access.{mod-small}
 use Rattle.unit.proofs.Passing.{timeNext, tick-timers, time-passes}
 use Rattle.history.proofs.Look.{look}
 use Rattle.history.proofs.Own.{View, viewIn, groupIn, view}
-use Rattle.history.proofs.Ticks.{viewTicked, view-tick, view-matches}
+use Rattle.history.proofs.Ticks.{patienceIn, ours, slotsAfter, viewTicked, view-tick, view-matches}
+use Rattle.slots.specs.Slots as slots
 use Rattle.history.proofs.Held.{Held}
 use Rattle.history.proofs.Fine.{Fine, small-word}
 use Rattle.history.proofs.Alone.{fades-tick}
-use Rattle.history.proofs.Parts.{Part, part, showPart, outcomePart, dueAtOnce, phasePart, part-tick}
-use Rattle.history.proofs.Chain.{Ahead, acts, running-held}
+use Rattle.history.proofs.Parts.{clocked-part, Part, part, showPart, outcomePart, dueAtOnce, phasePart, part-tick}
+use Rattle.history.proofs.Chain.{Ahead, ours-level, acts, running-held}
 use Rattle.history.proofs.Calls.{Words, fine-write}
 use Rattle.history.proofs.Fine.{fine-tick}
 
@@ -126,9 +127,9 @@ unserved-is Requested now = refl
 unserved-is (Armed time) now = refl
 unserved-is (Matched captured) now = refl
 
-pub on-enabled : (c : ℕ) (s : State) → enabled s c ≡ true → Enabled c s
-unfolding enabled Enabled priorityOf cprOf
-on-enabled c s z e = not-both z (rw e)
+pub on-enabled : (c : ℕ) (s : State) → ours c s ≡ true → Enabled c s
+unfolding priority Enabled priorityOf cprOf
+on-enabled c s z = ours-level c s z
 
 module _ (c : ℕ) (s : State) (h : Held c s) (f : Fine s) where
   abbrev t : State
@@ -137,10 +138,14 @@ module _ (c : ℕ) (s : State) (h : Held c s) (f : Fine s) where
   abbrev g : Group
   g = (view s c) .group
 
+  -- the patience that the tick leaves
+  abbrev q : ℕ → ℕ
+  q = patienceIn (slotsAfter s) c
+
   time : clockOf c t ≡ timeNext s c
   time = clock-is c t ∙ ap (λ k. timeBy k (t .timers)) (time-passes .named s c) ∙ ap (timeBy ((channel s c) .timer)) (tick-timers s)
 
-  pub ticked : (view t c) .group ≡ group.tick g
+  pub ticked : (view t c) .group ≡ group.tick (ours c s) q g
   unfolding viewTicked
   ticked = ap (λ (v : View). v .group) (view-tick c s (h .sized) (f .going) (h .seen))
 
@@ -158,11 +163,12 @@ module _ (c : ℕ) (s : State) (h : Held c s) (f : Fine s) where
   unfolding part showPart channelControl pinControl pinAfterMatch
   keeps j e = record { pin = ap (λ (q : Part). q .pin) e ∙ ap (λ b. pick b ((channel s j) .level) (pin s j)) (sym acted-then); control = ap (λ (q : Part). q .control) e; source = ap (λ (q : Part). q .source) e; level = ap (λ (q : Part). q .level) e }
 
-  still : (x : Group) → (view t c) .group ≡ x → x .motor ≡ g .motor → (x .phase ≡ happened (timeNext s c) ((channel s c) .phase)) ⊎ ((x .phase ≡ Resting) × (position s c ≡ target s c) × Enabled c s)
+  still : (x : Group) → (view t c) .group ≡ x → x .motor ≡ g .motor → ((x .phase ≡ happened (timeNext s c) ((channel s c) .phase)) × (IsServed c s → isPending (x .phase) ≡ false)) ⊎ ((x .phase ≡ Resting) × (position s c ≡ target s c) × Enabled c s × IsServed c s)
       → ((j : ℕ) → c ≤ j → j ≤ last s c → part c j t ≡ showPart acted (part c j s)) → Ticked
   unfolding view viewIn groupIn look position target part showPart
   still x e m p parts =
       let q : (view t c) .group .motor ≡ g .motor = ap (λ (y : Group). y .motor) e ∙ m in
+      let z : (channel t c) .phase ≡ x .phase = ap (λ (y : Group). y .phase) e in
       inr
       record {
         place = ap (λ (y : Motor). y .position) q;
@@ -171,38 +177,45 @@ module _ (c : ℕ) (s : State) (h : Held c s) (f : Fine s) where
         rates = ap (λ (y : Part). y .fourth) (parts c (omega arith) (h .alone .spans));
         aim = ap (λ (y : Motor). y .target) q;
         span = fades-tick s (f .sized) (f .going) .spans c;
-        phase = ⊎-elim (λ y. inl (ap (λ (z : Group). z .phase) e ∙ y ∙ ap (λ z. happened z ((channel s c) .phase)) (sym time) ∙ unserved-is ((channel s c) .phase) (clockOf c t))) (λ y. inr (ap (λ (z : Group). z .phase) e ∙ y .0, y .1, y .2)) p;
+        phase = ⊎-elim
+            (λ y. inl (
+              z ∙ y .0 ∙ ap (λ n. happened n ((channel s c) .phase)) (sym time) ∙ unserved-is ((channel s c) .phase) (clockOf c t),
+              λ o. ap isPending z ∙ y .1 o,
+            ))
+            (λ y. inr (z ∙ y .0, y .1, y .2, y .3)) p;
         channels = λ j a b. keeps j (parts j a b);
       }
 
   -- a tick in which nothing of c is served
-  idle : (view t c) .group ≡ group.clocked g → ((j : ℕ) → c ≤ j → j ≤ last s c → part c j t ≡ showPart acted (part c j s)) → Ticked
+  idle : (IsServed c s → isPending (happened (timeNext s c) ((channel s c) .phase)) ≡ false) → (view t c) .group ≡ group.clocked q g → ((j : ℕ) → c ≤ j → j ≤ last s c → part c j t ≡ showPart acted (part c j s)) → Ticked
   unfolding view viewIn groupIn look group.clocked
-  idle e parts = still (group.clocked g) e refl (inl refl) parts
+  idle n e parts = still (group.clocked q g) e refl (inl (refl, n)) parts
 
-  -- P of the present rate is at least 1
-  some-period : cntl0 s c * (1 + nextRate s c) < cntl1 s c
+  -- P of the present rate is at least 128
+  some-period : cntl0 s c * (1 + nextRate s c) + 128 ≤ cntl1 s c
   unfolding view viewIn groupIn look cntl0 cntl1 nextRate top motorOf period
   some-period =
-      let b : 1 ≤ cntl1 s c - cntl0 s c * (1 + nextRate s c) = (period-bounds (cntl0 s c) (cntl1 s c) (nextRate s c) (top s c) (h .seen .sound .valid .least) (h .seen .sound .valid .most) (h .seen .sound .shortest)) .0 in
-      omega arith
+      let v : Valid (g .motor) = h .seen .sound .valid in
+      let n : 128 ≤ period (cntl0 s c) (cntl1 s c) (top s c) = h .seen .sound .shortest in
+      omega (arith, (period-bounds (cntl0 s c) (cntl1 s c) (nextRate s c) (top s c) (v .least) (v .most) (omega arith)) .0)
 
-  match-is : (reference : ℕ) (w : Way) (k : ℕ) → (view t c) .group ≡ group.outcome (group.clocked g) reference (Step w k) → MatchIs c reference s t
+  match-is : (reference : ℕ) (w : Way) (k : ℕ) → (view t c) .group ≡ group.outcome (group.clocked q g) reference (Step w k) → MatchIs c reference s t
   unfolding view viewIn groupIn look group.clocked group.outcome cntl0 cntl1 nextRate armed later period isPast due since
   match-is reference w k e =
       let x : ℕ = later reference (period (cntl0 s c) (cntl1 s c) (nextRate s c)) in
       let p : (channel t c) .phase ≡ armed (clockOf c t) x = ap (λ (y : Group). y .phase) e ∙ ap (λ y. armed y x) (sym time) in
       record { time = x; some = some-period; sum = refl; set = λ q. p ∙ rw q refl; happens = λ q. p ∙ rw q refl }
 
-  step-by : Enabled c s → (reference : ℕ) (o : Outcome) → ((w : Way) (k : ℕ) → o ≡ Step w k → From c s t reference w k) → (view t c) .group ≡ group.outcome (group.clocked g) reference o
-      → ((j : ℕ) → c ≤ j → j ≤ last s c → part c j t ≡ outcomePart (dueAtOnce (group.clocked g) reference) o (showPart acted (part c j s))) → Serves (motorOf s c) o → Ticked
+  step-by : Enabled c s → IsServed c s → (reference : ℕ) (o : Outcome) → ((w : Way) (k : ℕ) → o ≡ Step w k → From c s t reference w k) → (view t c) .group ≡ group.outcome (group.clocked q g) reference o
+      → ((j : ℕ) → c ≤ j → j ≤ last s c → part c j t ≡ outcomePart (dueAtOnce (group.clocked q g) reference) o (showPart acted (part c j s))) → Serves (motorOf s c) o → Ticked
   unfolding Serves group.outcome group.clocked view viewIn groupIn look moved motorOf position target nextRate top outcomePart dueAtOnce match-is cntl0 cntl1 isPast due since
-  step-by on reference Arrived fr e parts d = still (group.outcome (group.clocked g) reference Arrived) e refl (inr (refl, d .reached, on)) parts
-  step-by on reference (Step w k) fr e parts d =
+  step-by on slot reference Arrived fr e parts d = still (group.outcome (group.clocked q g) reference Arrived) e refl (inr (refl, d .reached, on, slot)) parts
+  step-by on slot reference (Step w k) fr e parts d =
       let x : ℕ = later reference (period (cntl0 s c) (cntl1 s c) (nextRate s c)) in
-      let m : modCount t c ≡ nextCount w (modCount s c) = counted c s t f w k acted (dueAtOnce (group.clocked g) reference) (parts c (omega arith) (h .alone .spans)) in
+      let m : modCount t c ≡ nextCount w (modCount s c) = counted c s t f w k acted (dueAtOnce (group.clocked q g) reference) (parts c (omega arith) (h .alone .spans)) in
       inl
       record {
+        slot = slot;
         on = on;
         way = w;
         reference = reference;
@@ -215,7 +228,7 @@ module _ (c : ℕ) (s : State) (h : Held c s) (f : Fine s) where
         aim = ap (λ (x : Group). x .motor .target) e;
         span = fades-tick s (f .sized) (f .going) .spans c;
         match = match-is reference w k e;
-        channels = λ j a b. channel-steps c s t f w k acted (dueAtOnce (group.clocked g) reference) j x m (ap (λ y. isPast y x) time) acted-then (parts j a b);
+        channels = λ j a b. channel-steps c s t f w k acted (dueAtOnce (group.clocked q g) reference) j x m (ap (λ y. isPast y x) time) acted-then (parts j a b);
       }
 
   valid : Valid (motorOf s c)
@@ -245,33 +258,34 @@ module _ (c : ℕ) (s : State) (h : Held c s) (f : Fine s) where
       Continued n = (((channel s c) .way ≡ w) × ((1 ≤ n) ⊎ (2 ≤ nextRate s c))) ⊎ (((channel s c) .way ≢ w) × (nextRate s c ≡ 1) × (1 ≤ n))
 
   -- by what is pending after the matches
-  step-phase : Enabled c s → (p : Phase) → happened (timeNext s c) ((channel s c) .phase) ≡ p → (view t c) .group ≡ group.serve p (group.clocked g)
-      → ((j : ℕ) → c ≤ j → j ≤ last s c → part c j t ≡ phasePart p (group.clocked g) (showPart acted (part c j s))) → Ticked
-  unfolding group.serve phasePart group.clocked view viewIn groupIn look motorOf position target nextRate top
-  step-phase on Resting q e parts = idle e parts
-  step-phase on Requested q e parts =
-      let r : (channel s c) .phase ≡ Requested = happened-requested _ ((channel s c) .phase) q in
-      step-by on (timeNext s c) (onRequest (motorOf s c)) (λ w k o. by-request w k r o) e parts (one-step .on-request (motorOf s c) valid (slow r))
-  step-phase on (Armed x) q e parts = idle e parts
-  step-phase on (Matched x) q e parts =
-      step-by on x (onMatch (motorOf s c)) (λ w k o. by-match x w k q o) e parts (one-step .on-match (motorOf s c) valid)
+  step-phase : Enabled c s → IsServed c s → (p : Phase) → happened (timeNext s c) ((channel s c) .phase) ≡ p → (view t c) .group ≡ group.serve p (group.clocked q g)
+      → ((j : ℕ) → c ≤ j → j ≤ last s c → part c j t ≡ phasePart p (group.clocked q g) (showPart acted (part c j s))) → Ticked
+  unfolding group.serve phasePart group.clocked view viewIn groupIn look motorOf position target nextRate top isPending
+  step-phase on slot Resting x e parts = idle (λ o. ap isPending x) e parts
+  step-phase on slot Requested x e parts =
+      let r : (channel s c) .phase ≡ Requested = happened-requested _ ((channel s c) .phase) x in
+      step-by on slot (timeNext s c) (onRequest (motorOf s c)) (λ w k o. by-request w k r o) e parts (one-step .on-request (motorOf s c) valid (slow r))
+  step-phase on slot (Armed y) x e parts = idle (λ o. ap isPending x) e parts
+  step-phase on slot (Matched y) x e parts =
+      step-by on slot y (onMatch (motorOf s c)) (λ w k o. by-match y w k x o) e parts (one-step .on-match (motorOf s c) valid)
 
   -- the part of each channel, by the view after the matches
   pub parts-turned : (j : ℕ) → c ≤ j → j ≤ last s c
-      → part c j t ≡ pick (enabled s c) (phasePart (happened (timeNext s c) ((channel s c) .phase)) (group.clocked g) (showPart acted (part c j s))) (showPart acted (part c j s))
+      → part c j t ≡ pick (ours c s) (phasePart (happened (timeNext s c) ((channel s c) .phase)) (group.clocked q g) (showPart acted (part c j s))) (showPart acted (part c j s))
   unfolding view viewIn groupIn look motorOf position target nextRate top group.clocked
   parts-turned j a b =
       part-tick c j s h a b
-      ∙ ap (λ (v : View). pick (v .group .enabled) (phasePart (v .group .phase) (v .group) (showPart acted (part c j s))) (showPart acted (part c j s))) (view-matches c s (h .sized) (f .going) (h .seen))
+      ∙ ap (λ (v : View). pick (ours c s) (phasePart (v .group .phase) (v .group) (showPart acted (part c j s))) (showPart acted (part c j s))) (view-matches c s (h .sized) (f .going) (h .seen))
+      ∙ ap (λ x. pick (ours c s) x (showPart acted (part c j s))) (clocked-part (happened (timeNext s c) ((channel s c) .phase)) (patienceIn (slots.ticked (s .slots)) c) q g (showPart acted (part c j s)))
 
   pub tick-is : Ticked
-  unfolding group.tick group.clocked view viewIn groupIn look
-  tick-is = by (enabled s c) refl ticked parts-turned
+  unfolding group.tick group.clocked view viewIn groupIn look ours IsServed
+  tick-is = by (ours c s) refl ticked parts-turned
     where
-      by : (b : Bool) → enabled s c ≡ b → (view t c) .group ≡ pick b (group.serve (happened (timeNext s c) ((channel s c) .phase)) (group.clocked g)) (group.clocked g)
-          → ((j : ℕ) → c ≤ j → j ≤ last s c → part c j t ≡ pick b (phasePart (happened (timeNext s c) ((channel s c) .phase)) (group.clocked g) (showPart acted (part c j s))) (showPart acted (part c j s))) → Ticked
-      by true z e k = step-phase (on-enabled c s z) (happened (timeNext s c) ((channel s c) .phase)) refl e k
-      by false z e k = idle e k
+      by : (b : Bool) → ours c s ≡ b → (view t c) .group ≡ pick b (group.serve (happened (timeNext s c) ((channel s c) .phase)) (group.clocked q g)) (group.clocked q g)
+          → ((j : ℕ) → c ≤ j → j ≤ last s c → part c j t ≡ pick b (phasePart (happened (timeNext s c) ((channel s c) .phase)) (group.clocked q g) (showPart acted (part c j s))) (showPart acted (part c j s))) → Ticked
+      by true z e k = step-phase (on-enabled c s z) z (happened (timeNext s c) ((channel s c) .phase)) refl e k
+      by false z e k = idle (λ o. absurd (not-both o z)) e k
 
 pub whole-steps : (c : ℕ) (xs : List Act) (s : State) → Ahead c s → Fine s → Words xs → Running (moments c s xs) → WholeSteps c s xs
 unfolding moments Running WholeSteps Words does

@@ -10,7 +10,7 @@ use Rattle.words.specs.Rotation.{rotatedRight}
 use Rattle.motor.specs.declared.Phase.the-variants.{Matched}
 use Rattle.unit.specs.declared.State.{State}
 use Rattle.unit.specs.TheUnit.{resetState, reg, pin, request, reaches, isBound, function, channel, word, channelControl, pinControl, position, modCount, last, stepping}
-use Rattle.history.specs.OneStep.{Enabled, clockOf, actsAt}
+use Rattle.history.specs.OneStep.{Enabled, IsServed, clockOf, actsAt}
 use Rattle.unit.specs.OneTick.{tick}
 use Rattle.unit.specs.Gate.{otherwiseZero, spanGood}
 use Rattle.unit.specs.Calls.{Call}
@@ -109,15 +109,19 @@ pub record AlwaysOf (Listed : List Call → Type 0) : Type 0 where
   pub under-way : (calls : List Call) (s : State) → StateIn Listed calls s → (p : ℕ) → p < 16 → pending p s ≡ 3 → stepping s p ≡ true
   -- where a write sets a resting motor going, whatever else its word asks for, the state before it has the numbers of questions 2 to 9
   pub questions : (calls : List Call) (s : State) → StateIn Listed calls s → (c a v : ℕ) → SetsGoing c a v s → MayStep c s
-  -- an initialise is done in the next tick in which its channel has a priority
-  pub initialises : (calls : List Call) (s : State) → StateIn Listed calls s → (j : ℕ) → j < 16 → Pending j s → Enabled j s → InitialiseIs j s (tick s)
+  -- a channel whose priority is 00 is not served. Paper 02, #107
+  pub enabled : (calls : List Call) (s : State) → StateIn Listed calls s → (j : ℕ) → j < 16 → IsServed j s → Enabled j s
+  -- an initialise is done in the tick whose slot goes to its channel; `ServedWithin` says when that comes
+  pub initialises : (calls : List Call) (s : State) → StateIn Listed calls s → (j : ℕ) → j < 16 → Pending j s → IsServed j s → InitialiseIs j s (tick s)
   -- and nothing else in a tick changes a kind; no write does (`WritesLeave`)
   pub kinds : (calls : List Call) (s : State) → StateIn Listed calls s → (j : ℕ) → j < 16 → (channel (tick s) j) .kind ≢ (channel s j) .kind
-      → Pending j s × Enabled j s
-  -- a channel that is not bound, with no initialise pending or the priority 00, is left; and what is pending at 00 stays
-  pub untouched : (calls : List Call) (s : State) → StateIn Listed calls s → (j : ℕ) → j < 16 → isBound s j ≡ false → (Pending j s → Enabled j s → ⊥)
+      → Pending j s × IsServed j s
+  -- a channel that is not bound, with no initialise pending or not served, is left
+  pub untouched : (calls : List Call) (s : State) → StateIn Listed calls s → (j : ℕ) → j < 16 → isBound s j ≡ false → (Pending j s → IsServed j s → ⊥)
       → Untouched j s (tick s)
-  pub waits : (calls : List Call) (s : State) → StateIn Listed calls s → (j : ℕ) → j < 16 → Pending j s → (Enabled j s → ⊥) → Pending j (tick s)
+  -- a request of either kind is gone after the tick that serves its channel, and stays in every other: one service a tick. Paper 02, #107
+  pub done : (calls : List Call) (s : State) → StateIn Listed calls s → (j : ℕ) → j < 16 → 2 ≤ pending j s → IsServed j s → pending j (tick s) ≡ 0
+  pub waits : (calls : List Call) (s : State) → StateIn Listed calls s → (j : ℕ) → j < 16 → (IsServed j s → ⊥) → pending j (tick s) ≡ pending j s
 
 -- of every list of calls whose written values are words
 abbrev pub Always : Type 0

@@ -1,6 +1,6 @@
 -- What a list of calls does, moment by moment, and what is seen of a primary in it. Document 01, "The words of term 3".
 use Prim.Native.Nat.{ℕ, _+_, _-_, _*_, _/_, _%_, _≤_}
-use mathlib.Core.Bool.{Bool, true, false, not, _&&_}
+use mathlib.Core.Bool.{Bool, true, false, _&&_}
 use mathlib.Core.List.{List, [], _∷_, _++_}
 use mathlib.Core.Path.{_≡_}
 use lib.Dec.{ltb, eqb}
@@ -55,7 +55,7 @@ priorityOf c s = field 2 (reg s (9 + (1 - c / 8))) (2 * (c % 8))
 
 unfoldable pub see : ℕ → State → Sight
 see c s =
-    record { position = position s c; rate = nextRate s c; target = target s c; bound = isBound s c; status = status s c; enabled = not (eqb (priorityOf c s) 0) }
+    record { position = position s c; rate = nextRate s c; target = target s c; bound = isBound s c; status = status s c; level = priorityOf c s }
 
 -- the place is DESIRED_POSITION of the channel c
 unfoldable pub isTargetOf : ℕ → Place → Bool

@@ -3,12 +3,13 @@ use Prim.Native.Nat.{ℕ, _+_, _*_, _≤_}
 use mathlib.Core.Bool.{true, false}
 use mathlib.Core.List.{List, [], _∷_, _++_}
 use mathlib.Core.Path.{_≡_}
+use mathlib.Core.Logic.{_≢_}
 use lib.ListN.{replicate}
 use Rattle.words.specs.declared.Timer.{Timer}
 use Rattle.words.specs.declared.Timer.the-variants.{Tcr1, Tcr2}
 use Rattle.motor.specs.Stepping.{period}
 use Rattle.motor.specs.Track.{distance}
-use Rattle.motor.specs.Count.{Target, Moment, UnderWay, UpToArrival, Enabled, NoTarget, Undisturbed, Dark, EndsInTick, ticksIn, steps, Counted, Arrives}
+use Rattle.motor.specs.Count.{Target, Moment, UnderWay, UpToArrival, Keeps, NoTarget, Undisturbed, Dark, EndsInTick, ticksIn, longestWait, steps, Counted, Arrives}
 use Rattle.unit.specs.declared.State.{State}
 use Rattle.unit.specs.declared.Answer.the-variants.{Refused}
 use Rattle.unit.specs.TheUnit.{resetState, channel, position, target, nextRate, status, cntl0, cntl1, last, isBound}
@@ -53,7 +54,7 @@ pub record Homed (c : ℕ) (t : State) (now : List Act) : Type 0 where
   pub first : List Act
   pub later : List Act
   pub parts : now ≡ first ++ later
-  pub within : ticksIn (moments c t first) ≤ 1 + longestStep c t * (distance (position t c) (target t c) + 1)
+  pub within : ticksIn (moments c t first) ≤ longestWait (longestStep c t) (distance (position t c) (target t c))
   pub by-tick : EndsInTick (moments c t first)
   pub unbound : isBound (through t first) c ≡ false
   pub there : position (through t first) c ≡ target t c
@@ -133,17 +134,17 @@ pub record Term3Of (Listed : List Call → Type 0) : Type 0 where
   pub freed : (r : Run) → CutOf Listed r → UpToArrival (momentsNow r) → NoTarget (momentsNow r) → isBound (atEnd r) (r .c) ≡ false → Freed (r .c) (atEnd r)
   -- nothing of the run before the count sets the status bit, the request included
   pub dark : (r : Run) → CutOf Listed r → Dark (moments (r .c) (atRequest r) (Writes (r .a) (r .v) ∷ r .gone))
-  -- with the priority never 00 from the request on and no target taken, so many ticks bring it to its target
-  pub arrives : (r : Run) → CutOf Listed r → Enabled (momentsGone r) → Undisturbed (momentsNow r)
-      → 1 + longestStep (r .c) (atCount r) * (steps (see (r .c) (atStart r)) (momentsGone r) + 1) ≤ ticksIn (momentsNow r)
+  -- at one level that is not 00 from the request on and with no target taken, so many ticks bring it to its target
+  pub arrives : (r : Run) → CutOf Listed r → (l : ℕ) → l ≢ 0 → Keeps l (momentsGone r) → Undisturbed l (momentsNow r)
+      → longestWait (longestStep (r .c) (atCount r)) (steps (see (r .c) (atStart r)) (momentsGone r)) ≤ ticksIn (momentsNow r)
       → Arrives (see (r .c) (atStart r)) (momentsGone r) (momentsNow r)
   -- in document 01's words, from the request: steps is then the way to the target
   pub comes-home : (calls : List Call) (before now rest : List Act) (c a v : ℕ)
       → let s : State = through resetState before in
       let t : State = does (Writes a v) s in
       Listed calls → acts calls ≡ before ++ (Writes a v ∷ (now ++ rest)) → SetsGoing c a v s
-      → Enabled (moments c t now) → NoTarget (moments c t now)
-      → 1 + longestStep c t * (distance (position t c) (target t c) + 1) ≤ ticksIn (moments c t now)
+      → (l : ℕ) → l ≢ 0 → Keeps l (moments c t now) → NoTarget (moments c t now)
+      → longestWait (longestStep c t) (distance (position t c) (target t c)) ≤ ticksIn (moments c t now)
       → Homed c t now
 
 -- term 3: of every list of calls whose written values are words

@@ -6,8 +6,7 @@ use mathlib.Core.Logic.{_⊎_}
 use mathlib.Core.Path.{_≡_}
 use Rattle.words.specs.Field.{field}
 use Rattle.unit.specs.declared.State.{State}
-use Rattle.unit.specs.TheUnit.{cfsrOf, hsrrOf, cprOf, function, exists}
-use Rattle.unit.specs.Pending.{priority}
+use Rattle.unit.specs.TheUnit.{cfsrOf, hsrrOf, cprOf, function, priority, exists}
 use Rattle.unit.specs.declared.Place.{Place}
 use Rattle.unit.specs.declared.Place.the-variants.{AtRegister, AtWord, Nowhere}
 use Rattle.unit.specs.Gate.{place}

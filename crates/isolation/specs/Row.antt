@@ -1,4 +1,4 @@
--- A fixed row of channels: what of a state is its own, and what of a run it feels. Paper 02, #105.
+-- A fixed row of channels, and what of a run it feels. Paper 02, #105.
 use Prim.Native.Nat.{ℕ, zero, suc, _+_, _-_, _*_, _%_, _≤_, _<_}
 use mathlib.Core.Bool.{Bool, true, not, _&&_}
 use mathlib.Core.List.{List, [], _∷_, _++_}
@@ -8,8 +8,7 @@ use lib.Dec.{leb, eqb}
 use Rattle.words.specs.Choice.{pick}
 use Rattle.words.specs.Field.{field}
 use Rattle.unit.specs.declared.State.{State}
-use Rattle.unit.specs.TheUnit.{pin, request, function, channel, word, exists, last}
-use Rattle.unit.specs.Pending.{priority}
+use Rattle.unit.specs.TheUnit.{priority, function, exists, last}
 use Rattle.unit.specs.declared.Place.{Place}
 use Rattle.unit.specs.declared.Place.the-variants.{AtRegister, AtWord, Nowhere}
 use Rattle.unit.specs.Gate.{place}
@@ -23,18 +22,6 @@ pub record Row : Type 0 where
 
 unfoldable pub inRow : Row → ℕ → Bool
 inRow r j = leb (r .first) j && leb j (r .final)
-
--- ---- what of a state is the row's own
-
--- two states that agree in all of it: the timers, and of each channel its words, its record, its pin and its fields of HSRR, CFSR and CPR
-pub record Same (r : Row) (s t : State) : Type 0 where
-  pub clock : s .timers ≡ t .timers
-  pub words : (j i : ℕ) → inRow r j ≡ true → i < 8 → word s j i ≡ word t j i
-  pub records : (j : ℕ) → inRow r j ≡ true → channel s j ≡ channel t j
-  pub pins : (j : ℕ) → inRow r j ≡ true → pin s j ≡ pin t j
-  pub requests : (j : ℕ) → inRow r j ≡ true → request s j ≡ request t j
-  pub functions : (j : ℕ) → inRow r j ≡ true → function s j ≡ function t j
-  pub priorities : (j : ℕ) → inRow r j ≡ true → priority s j ≡ priority t j
 
 -- ---- what the row feels of a run, in the order in which it happens
 

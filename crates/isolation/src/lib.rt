@@ -1,7 +1,8 @@
-// One frame does not feel the other: what is proved of a row of channels in two runs from reset. Paper 02, #105.
-ghost use Rattle.isolation.specs.Isolated.{Isolated};
+// One frame does not feel the other: what is proved of a row of channels in two runs from reset. Paper 02, #105 as #107 restates it.
+ghost use Rattle.isolation.specs.OneMove.{OneMove};
 
-// Two runs of which a row of channels feels the same agree in its pins and positions after every tick, whatever else they do.
+// A move that one request sets going in two runs of which its row felt the same before: as many counts after each was first served both
+// show the same pins, whatever else the runs do and however late their services come.
 pub fn frames_apart()
-    ensures { λ r. ⌜ Isolated ⌝ }
+    ensures { λ r. ⌜ OneMove ⌝ }
 {}

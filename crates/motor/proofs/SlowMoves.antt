@@ -2,7 +2,7 @@
 -- ahead, and the rate is at most their number.
 use Prim.Native.Nat.{ℕ, zero, suc, _+_, _-_, _%_, _≤_, _<_, max}
 use native.Mathlib.Omega.{arith}
-use mathlib.Core.Bool.{true, false}
+use mathlib.Core.Bool.{Bool, true, false}
 use mathlib.Core.Path.{_≡_, refl, ap, sym, subst, _∙_}
 use mathlib.Core.Logic.{_≢_, _⊎_, inl, inr, ⊎-elim}
 use mathlib.Core.List.{List, [], _∷_, _++_}
@@ -178,11 +178,11 @@ serve-drives Requested g v o c = outcome-drives g (timeOf g) (onRequest (g .moto
 serve-drives (Armed t) g v o c = record { motor = inl refl; course = c }
 serve-drives (Matched t) g v o c = outcome-drives g t (onMatch (g .motor)) (heads-match (g .motor) v o)
 
-tick-drives : (g : Group) → Sound g → Course (g .phase) (g .motor) → Drives (g .motor) (tick g)
+tick-drives : (u : Bool) (p : ℕ → ℕ) (g : Group) → Sound g → Course (g .phase) (g .motor) → Drives (g .motor) (tick u p g)
 unfolding tick clocked
-tick-drives g s o =
+tick-drives u p g s o =
     let c : Course (happened (nextTime g) (g .phase)) (g .motor) = happened-course (nextTime g) (g .phase) (g .motor) o in
-    pick-cases (Drives (g .motor)) (g .enabled) (λ a. serve-drives ((clocked g) .phase) (clocked g) (s .valid) c c) (λ a. record { motor = inl refl; course = c })
+    pick-cases (Drives (g .motor)) u (λ a. serve-drives ((clocked p g) .phase) (clocked p g) (s .valid) c c) (λ a. record { motor = inl refl; course = c })
 
 -- ---- many
 
@@ -199,23 +199,23 @@ unfolding movesOf see
 seen-step g h s = rw (ne-eqb (g .motor .position) (h .motor .position) (s .moves))
 
 -- a property of the step list of a tick: for no step, with the motor left, and for one
-by-tick : (g : Group) (C : List Move → Type 0) → Sound g → bound (g .phase) ≡ true → Course (g .phase) (g .motor)
-    → (Sound (tick g) → Course ((tick g) .phase) ((tick g) .motor) → (tick g) .motor ≡ g .motor → C [])
-    → (Sound (tick g) → Course ((tick g) .phase) ((tick g) .motor) → Stride (g .motor) ((tick g) .motor) → C (stepOf g (tick g) ∷ []))
-    → C (movesOf Tick (see g) (see (tick g)))
-by-tick g C s b o still on =
-    let d : Drives (g .motor) (tick g) = tick-drives g s o in
-    let z : Sound (tick g) = ticked-sound (g .motor) (tick g) (one-tick .does g s b) in
-    ⊎-elim (λ e. rw (seen-still g (tick g) e) (still z (d .course) e)) (λ e. rw (seen-step g (tick g) e) (on z (d .course) e)) (d .motor)
+by-tick : (u : Bool) (p : ℕ → ℕ) (g : Group) (C : List Move → Type 0) → Sound g → bound (g .phase) ≡ true → Course (g .phase) (g .motor)
+    → (Sound (tick u p g) → Course ((tick u p g) .phase) ((tick u p g) .motor) → (tick u p g) .motor ≡ g .motor → C [])
+    → (Sound (tick u p g) → Course ((tick u p g) .phase) ((tick u p g) .motor) → Stride (g .motor) ((tick u p g) .motor) → C (stepOf g (tick u p g) ∷ []))
+    → C (movesOf Tick (see g) (see (tick u p g)))
+by-tick u p g C s b o still on =
+    let d : Drives (g .motor) (tick u p g) = tick-drives u p g s o in
+    let z : Sound (tick u p g) = ticked-sound (g .motor) (tick u p g) (one-tick .does u p g s b) in
+    ⊎-elim (λ e. rw (seen-still g (tick u p g) e) (still z (d .course) e)) (λ e. rw (seen-step g (tick u p g) e) (on z (d .course) e)) (d .motor)
 
 slow-steps : (g : Group) (acts : List Act) → Sound g → Course (g .phase) (g .motor) → Running (moments g acts) → NoTarget (moments g acts)
     → g .motor .rate ≡ 1 → distance (g .motor .position) (g .motor .target) ≤ g .motor .top → AllSlow (movesIn (moments g acts))
 unfolding moments movesIn Running NoTarget next eventOf see altered movesOf isTarget AllSlow
 slow-steps g [] s o r n e l = tt
-slow-steps g (Ticks ∷ acts) s o r n e l =
-    by-tick g (λ ys. AllSlow (ys ++ movesIn (moments (tick g) acts))) s (r .0) o
-    (λ z c q. slow-steps (tick g) acts z c (r .1) (n .1) (ap (λ (m : Motor). m .rate) q ∙ e) (subst (λ (m : Motor). distance (m .position) (m .target) ≤ m .top) (sym q) l))
-    (λ z c q. (e, slow-steps (tick g) acts z c (r .1) (n .1) (q .pace .falls l ∙ omega arith) (omega (arith, q .nearer, q .top))))
+slow-steps g (Ticks u p ∷ acts) s o r n e l =
+    by-tick u p g (λ ys. AllSlow (ys ++ movesIn (moments (tick u p g) acts))) s (r .0) o
+    (λ z c q. slow-steps (tick u p g) acts z c (r .1) (n .1) (ap (λ (m : Motor). m .rate) q ∙ e) (subst (λ (m : Motor). distance (m .position) (m .target) ≤ m .top) (sym q) l))
+    (λ z c q. (e, slow-steps (tick u p g) acts z c (r .1) (n .1) (q .pace .falls l ∙ omega arith) (omega (arith, q .nearer, q .top))))
 slow-steps g (Aims t ∷ acts) s o r n e l = absurd (not-both refl (n .0))
 slow-steps g (Alters x y ∷ acts) s o r n e l = slow-steps (altered x y g) acts (altered-sound x y g s) o (r .1) (n .1) e l
 
@@ -227,25 +227,25 @@ ends-slow : (g : Group) (acts : List Act) (x : Option Move) → Sound g → Cour
     → Ends x (g .motor) → Ends (latest x (movesIn (moments g acts))) ((final g acts) .motor)
 unfolding moments final movesIn latest Running NoTarget next eventOf see altered movesOf isTarget LastSlow
 ends-slow g [] x s o r n e = e
-ends-slow g (Ticks ∷ acts) x s o r n e =
-    by-tick g (λ ys. Ends (latest x (ys ++ movesIn (moments (tick g) acts))) ((final (tick g) acts) .motor)) s (r .0) o
-    (λ z c q. ends-slow (tick g) acts x z c (r .1) (n .1) (subst (Ends x) (sym q) e))
-    (λ z c q. ends-slow (tick g) acts (some (stepOf g (tick g))) z c (r .1) (n .1) (λ k. omega (arith, q .nearer, q .fast, q .least)))
+ends-slow g (Ticks u p ∷ acts) x s o r n e =
+    by-tick u p g (λ ys. Ends (latest x (ys ++ movesIn (moments (tick u p g) acts))) ((final (tick u p g) acts) .motor)) s (r .0) o
+    (λ z c q. ends-slow (tick u p g) acts x z c (r .1) (n .1) (subst (Ends x) (sym q) e))
+    (λ z c q. ends-slow (tick u p g) acts (some (stepOf g (tick u p g))) z c (r .1) (n .1) (λ k. omega (arith, q .nearer, q .fast, q .least)))
 ends-slow g (Aims t ∷ acts) x s o r n e = absurd (not-both refl (n .0))
 ends-slow g (Alters a b ∷ acts) x s o r n e = ends-slow (altered a b g) acts x (altered-sound a b g s) o (r .1) (n .1) e
 
-other-tick : {A : Type 0} → eventOf (Alters true true) ≡ Tick → A
+other-tick : {A : Type 0} → eventOf (Alters 0 true) ≡ Tick → A
 unfolding eventOf
 other-tick e = let z : _≡_ {A = ℕ} 0 1 = cc in absurd (omega arith)
 
 keeps-pace : (g : Group) (acts : List Act) → Sound g → Course (g .phase) (g .motor) → Running (moments g acts) → NoTarget (moments g acts) → Paced (g .motor .top) (moments g acts)
 unfolding moments Running NoTarget next eventOf see altered isTarget Paced
 keeps-pace g [] s o r n = tt
-keeps-pace g (Ticks ∷ acts) s o r n =
-    let d : Drives (g .motor) (tick g) = tick-drives g s o in
-    let rest : Paced ((tick g) .motor .top) (moments (tick g) acts) = keeps-pace (tick g) acts (ticked-sound (g .motor) (tick g) (one-tick .does g s (r .0))) (d .course) (r .1) (n .1) in
-    ⊎-elim (λ e. (λ t m. absurd (m (ap (λ (z : Motor). z .position) (sym e))), subst (λ (z : Motor). Paced (z .top) (moments (tick g) acts)) e rest))
-    (λ e. (λ t m. e .pace, subst (λ z. Paced z (moments (tick g) acts)) (e .top) rest)) (d .motor)
+keeps-pace g (Ticks u p ∷ acts) s o r n =
+    let d : Drives (g .motor) (tick u p g) = tick-drives u p g s o in
+    let rest : Paced ((tick u p g) .motor .top) (moments (tick u p g) acts) = keeps-pace (tick u p g) acts (ticked-sound (g .motor) (tick u p g) (one-tick .does u p g s (r .0))) (d .course) (r .1) (n .1) in
+    ⊎-elim (λ e. (λ t m. absurd (m (ap (λ (z : Motor). z .position) (sym e))), subst (λ (z : Motor). Paced (z .top) (moments (tick u p g) acts)) e rest))
+    (λ e. (λ t m. e .pace, subst (λ z. Paced z (moments (tick u p g) acts)) (e .top) rest)) (d .motor)
 keeps-pace g (Aims t ∷ acts) s o r n = absurd (not-both refl (n .0))
 keeps-pace g (Alters a b ∷ acts) s o r n = (λ t. other-tick t, keeps-pace (altered a b g) acts (altered-sound a b g s) o (r .1) (n .1))
 

@@ -20,7 +20,7 @@ use Rattle.unit.specs.TheUnit.{idle, resetState}
 use Rattle.unit.proofs.Reset.{Sized}
 use Rattle.pack.specs.Packing.{tabulate, wayNumber, wayFrom, timerNumber, timerFrom, phaseNumber, timeIn, phaseFrom, flagsOf, timeOf, channelFrom, packedWord, packed, zeros, isWhole, wordIn, regIn, channelIn, stateIn, unpacked}
 use Rattle.pack.proofs.Tabled.{length-tabled, tabled-at, tabled-is}
-use Rattle.pack.proofs.Parts.{at-words, at-registers, at-timer, at-second, at-pins, at-flags, at-times}
+use Rattle.pack.proofs.Parts.{at-words, at-registers, at-timer, at-second, at-pins, at-flags, at-times, at-slot, at-high, at-middle, at-low}
 
 -- ---- a channel
 
@@ -76,9 +76,9 @@ channel-back x =
 
 -- ---- a state
 
-word-of : (st : State) (i : ℕ) → i < 175 → getD (packed st) i 0 ≡ packedWord st i
+word-of : (st : State) (i : ℕ) → i < 179 → getD (packed st) i 0 ≡ packedWord st i
 unfolding packed
-word-of st i h = tabled-at (packedWord st) 0 175 i h
+word-of st i h = tabled-at (packedWord st) 0 179 i h
 
 words-back : (st : State) → Sized st → tabulate 128 (wordIn (packed st)) ≡ st .words
 words-back st z = tabled-is _ 0 (st .words) 128 (z .words) (λ i h. word-of st i (omega arith) ∙ sym (at-words st i h))
@@ -100,7 +100,8 @@ channels-back st z = tabled-is _ idle (st .channels) 16 (z .channels) each
         let e : 143 + i - 143 ≡ i = omega arith in
         let f : 159 + i - 159 ≡ i = omega arith in
         let flags : getD (packed st) (143 + i) 0 ≡ flagsOf x = word-of st (143 + i) (omega arith) ∙ sym (at-flags st (143 + i) (omega arith) (omega arith)) ∙ ap (λ (k : ℕ). flagsOf (getD (st .channels) k idle)) e in
-        let time : getD (packed st) (159 + i) 0 ≡ timeOf x = word-of st (159 + i) (omega arith) ∙ sym (at-times st (159 + i) (omega arith)) ∙ ap (λ (k : ℕ). timeOf (getD (st .channels) k idle)) f in
+        let time : getD (packed st) (159 + i) 0 ≡ timeOf x =
+        word-of st (159 + i) (omega arith) ∙ sym (at-times st (159 + i) (omega arith) (omega arith)) ∙ ap (λ (k : ℕ). timeOf (getD (st .channels) k idle)) f in
         rw (flags, time) (channel-back x)
 
 in-back : (st : State) → Sized st → stateIn (packed st) ≡ st
@@ -109,11 +110,15 @@ in-back st z =
     let t : getD (packed st) 140 0 ≡ st .timers .tcr1 = word-of st 140 (omega arith) ∙ sym (at-timer st) in
     let u : getD (packed st) 141 0 ≡ st .timers .tcr2 = word-of st 141 (omega arith) ∙ sym (at-second st) in
     let p : getD (packed st) 142 0 ≡ st .pins = word-of st 142 (omega arith) ∙ sym (at-pins st) in
-    rw (words-back st z, regs-back st z, t, u, p, channels-back st z)
+    let a : getD (packed st) 175 0 ≡ st .slots .slot = word-of st 175 (omega arith) ∙ sym (at-slot st) in
+    let b : getD (packed st) 176 0 ≡ st .slots .high = word-of st 176 (omega arith) ∙ sym (at-high st) in
+    let c : getD (packed st) 177 0 ≡ st .slots .middle = word-of st 177 (omega arith) ∙ sym (at-middle st) in
+    let d : getD (packed st) 178 0 ≡ st .slots .low = word-of st 178 (omega arith) ∙ sym (at-low st) in
+    rw (words-back st z, regs-back st z, t, u, p, channels-back st z, a, b, c, d)
 
 whole-packed : (st : State) → isWhole (packed st) ≡ true
 unfolding isWhole packed
-whole-packed st = eq-eqb _ 175 (length-tabled (packedWord st) 175)
+whole-packed st = eq-eqb _ 179 (length-tabled (packedWord st) 179)
 
 back : (st : State) → Sized st → unpacked (packed st) ≡ st
 unfolding unpacked

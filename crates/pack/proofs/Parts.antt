@@ -32,6 +32,31 @@ pub at-flags : (st : State) (i : ℕ) → 143 ≤ i → i < 159 → flagsOf (get
 unfolding packedWord
 at-flags st i l h = simp (le-ltb i 128 (omega arith), le-ltb i 140 (omega arith), le-ltb i 141 (omega arith), le-ltb i 142 (omega arith), le-ltb i 143 l, lt-ltb i 159 h)
 
-pub at-times : (st : State) (i : ℕ) → 159 ≤ i → timeOf (getD (st .channels) (i - 159) idle) ≡ packedWord st i
+pub at-times : (st : State) (i : ℕ) → 159 ≤ i → i < 175 → timeOf (getD (st .channels) (i - 159) idle) ≡ packedWord st i
 unfolding packedWord
-at-times st i l = simp (le-ltb i 128 (omega arith), le-ltb i 140 (omega arith), le-ltb i 141 (omega arith), le-ltb i 142 (omega arith), le-ltb i 143 (omega arith), le-ltb i 159 l)
+at-times st i l h =
+    simp (
+      le-ltb i 128 (omega arith),
+      le-ltb i 140 (omega arith),
+      le-ltb i 141 (omega arith),
+      le-ltb i 142 (omega arith),
+      le-ltb i 143 (omega arith),
+      le-ltb i 159 l,
+      lt-ltb i 175 h,
+    )
+
+pub at-slot : (st : State) → st .slots .slot ≡ packedWord st 175
+unfolding packedWord
+at-slot st = refl
+
+pub at-high : (st : State) → st .slots .high ≡ packedWord st 176
+unfolding packedWord
+at-high st = refl
+
+pub at-middle : (st : State) → st .slots .middle ≡ packedWord st 177
+unfolding packedWord
+at-middle st = refl
+
+pub at-low : (st : State) → st .slots .low ≡ packedWord st 178
+unfolding packedWord
+at-low st = refl

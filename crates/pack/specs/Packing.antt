@@ -1,4 +1,5 @@
--- The state in 175 words: 128 parameter words, 12 registers, TCR1, TCR2, the pins, 16 words of flags, 16 times.
+-- The state in 179 words: 128 parameter words, 12 registers, TCR1, TCR2, the pins, 16 words of flags, 16 times, the slot, and where the
+-- search of each level begins, high, middle, low.
 use Prim.Native.Nat.{ℕ, zero, suc, _+_, _-_, _*_}
 use mathlib.Core.Bool.{Bool, true, false}
 use mathlib.Core.List.{List, [], _∷_, _++_}
@@ -18,7 +19,7 @@ use Rattle.unit.specs.TheUnit.{idle, resetState}
 
 -- how many words hold a state
 abbrev pub stateWords : ℕ
-stateWords = 175
+stateWords = 179
 
 -- f 0, f 1 and so on up to f (n - 1)
 unfoldable pub tabulate : {A : Type 0} → ℕ → (ℕ → A) → List A
@@ -95,7 +96,11 @@ packedWord st i =
     (pick (ltb i 142) (st .timers .tcr2)
     (pick (ltb i 143) (st .pins)
     (pick (ltb i 159) (flagsOf (getD (st .channels) (i - 143) idle))
-    (timeOf (getD (st .channels) (i - 159) idle)))))))
+    (pick (ltb i 175) (timeOf (getD (st .channels) (i - 159) idle))
+    (pick (ltb i 176) (st .slots .slot)
+    (pick (ltb i 177) (st .slots .high)
+    (pick (ltb i 178) (st .slots .middle)
+    (st .slots .low))))))))))
 
 unfoldable pub packed : State → List ℕ
 packed st = tabulate stateWords (packedWord st)
@@ -131,6 +136,7 @@ stateIn s =
       timers = record { tcr1 = getD s 140 0; tcr2 = getD s 141 0 };
       pins = getD s 142 0;
       channels = tabulate 16 (channelIn s);
+      slots = record { slot = getD s 175 0; high = getD s 176 0; middle = getD s 177 0; low = getD s 178 0 };
     }
 
 -- every content is a state; words of another number are the one after reset

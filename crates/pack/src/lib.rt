@@ -7,8 +7,8 @@ ghost use mathlib.Core.Path.{_≡_};
 ghost use Rattle.pack.specs.Packing.{packed, unpacked, laid};
 use unit::State;
 
-// 128 parameter words, 12 registers, TCR1, TCR2, the pins, 16 words of flags, 16 times.
-pub const WORDS: usize = 175;
+// 128 parameter words, 12 registers, TCR1, TCR2, the pins, 16 words of flags, 16 times, the slot, and where the search of each level begins.
+pub const WORDS: usize = 179;
 
 // The state that the words hold. Words of another number hold the state after reset.
 pub fn unpack(s: &[u16]) -> State

@@ -1,14 +1,15 @@
-// The state out of 175 words.
+// The state out of 179 words.
 ghost use mathlib.Core.Path.{_≡_};
 ghost use lib.ListN.{length};
 ghost use Rattle.pack.specs.Packing.{tabulate, wordIn, regIn, channelIn, stateIn};
 use crate::channels;
+use slots::Slots;
 use unit::Channel;
 use unit::State;
 use words::Timers;
 
 fn words_in(s: &[u16]) -> [u16; 128]
-    requires { ⌜ length (now s) ≡ 175 ⌝ }
+    requires { ⌜ length (now s) ≡ 179 ⌝ }
     ensures { λ r. ⌜ r ≡ tabulate 128 (wordIn (now (s .entry))) ⌝ }
 {
     let mut w = [0u16; 128];
@@ -19,7 +20,7 @@ fn words_in(s: &[u16]) -> [u16; 128]
 }
 
 fn regs_in(s: &[u16]) -> [u16; 12]
-    requires { ⌜ length (now s) ≡ 175 ⌝ }
+    requires { ⌜ length (now s) ≡ 179 ⌝ }
     ensures { λ r. ⌜ r ≡ tabulate 12 (regIn (now (s .entry))) ⌝ }
 {
     let mut w = [0u16; 12];
@@ -30,7 +31,7 @@ fn regs_in(s: &[u16]) -> [u16; 12]
 }
 
 fn channels_in(s: &[u16]) -> [Channel; 16]
-    requires { ⌜ length (now s) ≡ 175 ⌝ }
+    requires { ⌜ length (now s) ≡ 179 ⌝ }
     ensures { λ r. ⌜ r ≡ tabulate 16 (channelIn (now (s .entry))) ⌝ }
 {
     let mut w = [Channel::IDLE; 16];
@@ -41,7 +42,7 @@ fn channels_in(s: &[u16]) -> [Channel; 16]
 }
 
 pub fn state_in(s: &[u16]) -> State
-    requires { ⌜ length (now s) ≡ 175 ⌝ }
+    requires { ⌜ length (now s) ≡ 179 ⌝ }
     ensures { λ r. ⌜ r ≡ stateIn (now (s .entry)) ⌝ }
 {
     let words = words_in(s);
@@ -56,5 +57,11 @@ pub fn state_in(s: &[u16]) -> State
         },
         pins: s[142],
         channels,
+        slots: Slots {
+            slot: s[175],
+            high: s[176],
+            middle: s[177],
+            low: s[178],
+        },
     }
 }

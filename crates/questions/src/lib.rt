@@ -2,7 +2,7 @@
 ghost use mathlib.Core.Path.{_≡_};
 ghost use Prim.Native.Nat.{_<_};
 ghost use Rattle.unit.specs.TheUnit.{all, size, modCount};
-ghost use Rattle.unit.specs.Gate.{isStepper, isTimed, mayInitialise, otherwiseZero, spanGood, isReady, groupReady, showsPattern, patternGood, rampGood, targetGood};
+ghost use Rattle.unit.specs.Gate.{isStepper, isTimed, mayInitialise, otherwiseZero, spanGood, isReady, groupReady, showsPattern, patternGood, rampGood, quickGood, targetGood};
 use access::parameters;
 use access::records;
 use access::registers;
@@ -12,6 +12,9 @@ use words::Timer;
 use words::clock;
 use words::field;
 use words::rotation;
+
+// P(N) is at least so many counts of the group's timer.
+const MIN_PERIOD: u16 = 128;
 
 // Question 3.
 pub fn is_stepper(s: State, c: u16) -> bool
@@ -154,6 +157,13 @@ pub fn ramp_good(cntl0: u16, cntl1: u16, n: u16) -> bool
         return false;
     }
     step::period(cntl0, cntl1, 1) <= State::MAX_PERIOD
+}
+
+// Question 14, straight after it: however late a match is served, the next one is still to come.
+pub fn quick_good(cntl0: u16, cntl1: u16, n: u16) -> bool
+    ensures { λ r. ⌜ r ≡ quickGood cntl0 cntl1 n ⌝ }
+{
+    MIN_PERIOD <= step::period(cntl0, cntl1, n)
 }
 
 // Question 9.

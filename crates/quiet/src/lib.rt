@@ -1,10 +1,12 @@
-// How many ticks pass from a state in which nothing happens but that the timers go on.
+// How many ticks pass from a state in which nothing happens but that the timers and the slot go on, and the state after them.
 ghost use mathlib.Core.Path.{_≡_};
 ghost use Prim.Native.Nat.{min, _*_, _%_};
 ghost use lib.ListN.{getD};
 ghost use Rattle.words.specs.Choice.{pick};
+ghost use Rattle.words.specs.Clock.{onward};
 ghost use Rattle.words.specs.Field.{field};
-ghost use Rattle.unit.specs.TheUnit.{cprOf, hsrrOf};
+ghost use Rattle.slots.specs.Slots.{idled};
+ghost use Rattle.unit.specs.TheUnit.{withTimers, withSlots, cprOf, hsrrOf};
 ghost use Rattle.unit.specs.Pending.{isWanted};
 ghost use Rattle.unit.specs.Quiet.{untilDue, waits, quietBelow};
 use access::registers;
@@ -77,4 +79,15 @@ pub fn quiet_ticks(s: State, room: u16) -> u16
         }
     }
     lesser(q, room as u32) as u16
+}
+
+// After so many of them.
+pub fn passed(mut s: State, q: u16) -> State
+    ensures { λ r. ⌜ r ≡ withSlots (withTimers s (onward q (s .timers))) (idled q (s .slots)) ⌝ }
+{
+    let timers = s.timers;
+    s.timers = clock::onward(q, timers);
+    let slots = s.slots;
+    s.slots = slots.idled(q);
+    s
 }

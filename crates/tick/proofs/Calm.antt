@@ -1,18 +1,22 @@
--- Where no request is pending and no match is due or has happened, a tick only moves the timers.
+-- Where no request is pending and no match is due or has happened, a tick only moves the timers and the slot.
 use Prim.Native.Nat.{ℕ, _+_, _*_, _%_, _^_, _<_}
 use native.Mathlib.Nat.{zero-div}
 use native.Mathlib.Omega.{arith}
 use mathlib.Core.Bool.{Bool, true, false}
-use mathlib.Core.Path.{_≡_, refl}
-use lib.Dec.{ltb}
+use mathlib.Core.Path.{_≡_, refl, sym, ap, subst}
+use lib.Dec.{ltb, eqb}
 use borrow.Author.Tests.{ltb-true, ltb-false}
+use Rattle.slots.specs.declared.Service.the-variants.{Nobody}
+use Rattle.slots.specs.Slots.{chosen}
+use Rattle.slots.specs.Claims.{Levels}
+use Rattle.slots.proofs.Within.{one-service}
 use Rattle.motor.specs.declared.Phase.{Phase}
 use Rattle.unit.specs.declared.State.{State}
-use Rattle.unit.specs.TheUnit.{each, reg, request, hsrrOf, channel, timeFor}
-use Rattle.unit.specs.OneTick.{matched, served}
-use Rattle.unit.specs.Pending.{isDue, isMatched}
-use Rattle.unit.proofs.Tests.{or-none}
-use Rattle.unit.proofs.Scans.{match-rests, passes-over, nothing-wanted}
+use Rattle.unit.specs.TheUnit.{each, reg, request, priority, hsrrOf, channel, timeFor}
+use Rattle.unit.specs.OneTick.{matched, slotServed}
+use Rattle.unit.specs.Pending.{isDue, isMatched, wanted, asksOf}
+use Rattle.unit.proofs.Tests.{and-no, or-none}
+use Rattle.unit.proofs.Scans.{match-rests, nothing-wanted}
 use Rattle.unit.proofs.Quiet.{each-rests}
 use Rattle.words.specs.Field.{field}
 use Rattle.channel.specs.Service.{stirs}
@@ -38,7 +42,16 @@ no-request s c h7 h8 l = by (ltb c 8) refl
     by true e = let k : hsrrOf c ≡ 8 = omega (arith, ltb-true c 8 e) in rw (k, h8, zero-div (2 ^ (2 * (c % 8)))) refl
     by false e = let k : hsrrOf c ≡ 7 = omega (arith, ltb-false c 8 e, l) in rw (k, h7, zero-div (2 ^ (2 * (c % 8)))) refl
 
-pub calm-rests : (s : State) → reg s 7 ≡ 0 → reg s 8 ≡ 0 → ((c : ℕ) → c < 16 → stirs ((channel s c) .phase) (timeFor s c) ≡ false) → each 16 0 served (each 16 0 matched s) ≡ s
+asks-none : (s : State) (level c : ℕ) → wanted s c ≡ false → asksOf s level c ≡ false
+unfolding asksOf
+asks-none s level c e = and-no (eqb (priority s c) level) (wanted s c) e
+
+pub calm-rests : (s : State) → reg s 7 ≡ 0 → reg s 8 ≡ 0 → ((c : ℕ) → c < 16 → stirs ((channel s c) .phase) (timeFor s c) ≡ false)
+    → slotServed (chosen ((each 16 0 matched s) .slots) (asksOf (each 16 0 matched s))) (each 16 0 matched s) ≡ s
+unfolding slotServed
 calm-rests s h7 h8 calm =
     let m : each 16 0 matched s ≡ s = each-rests 16 matched s (λ c l. match-rests s (0 + c) (not-stirring _ _ (calm (0 + c) (omega (arith, l))) .0)) in
-    rw m (each-rests 16 served s (λ c l. passes-over s (0 + c) (nothing-wanted s (0 + c) (no-request s (0 + c) h7 h8 (omega (arith, l))) (not-stirring _ _ (calm (0 + c) (omega (arith, l))) .1))))
+    let unwanted : (level c : ℕ) → Levels level c → asksOf s level c ≡ false =
+    λ level c l. asks-none s level c (nothing-wanted s c (no-request s c h7 h8 (l .channel)) (not-stirring _ _ (calm c (l .channel)) .1)) in
+    let none : chosen (s .slots) (asksOf s) ≡ Nobody = one-service .nobody (s .slots) (asksOf s) unwanted in
+    subst (λ t. slotServed (chosen (t .slots) (asksOf t)) t ≡ s) (sym m) (ap (λ v. slotServed v s) none)

@@ -3,9 +3,9 @@ use Prim.Native.Nat.{ℕ, zero, suc, _+_, _*_, _%_, _≤_, _<_}
 use native.Mathlib.Omega.{arith}
 use mathlib.Core.Bool.{Bool, true, false}
 use mathlib.Core.List.{List, [], _∷_}
-use mathlib.Core.Path.{_≡_, refl, sym, ap, _∙_}
+use mathlib.Core.Path.{_≡_, refl, sym, ap, subst, _∙_}
 use lib.Dec.{eqb, leb}
-use lib.ListN.{length, getD, set, length-set}
+use lib.ListN.{getD, set}
 use lib.Seq.{set-getD}
 use Rattle.words.specs.Choice.{pick}
 use Rattle.words.specs.Clock.{due, later, timeBy}
@@ -19,7 +19,7 @@ use Rattle.motor.specs.declared.Outcome.the-variants.{Arrived, Step}
 use Rattle.motor.specs.Stepping.{onRequest, onMatch}
 use Rattle.unit.specs.declared.Channel.{Channel}
 use Rattle.unit.specs.declared.State.{State}
-use Rattle.unit.specs.TheUnit.{idle, each, withPins, withPin, withReg, withRequest, withStatus, withWords, withWord, withChannel, withSetUp, withLevel, withPhase, timeFor, channel, channelControl, pinControl, word, reg, hsrrOf, request, enabled, size, last, position, modCount, target, nextRate, top, cntl0, cntl1, motorOf}
+use Rattle.unit.specs.TheUnit.{idle, each, withPins, withPin, withReg, withRequest, withStatus, withWords, withWord, withChannel, withSetUp, withLevel, withPhase, timeFor, channel, channelControl, pinControl, word, reg, hsrrOf, request, size, last, position, modCount, target, nextRate, top, cntl0, cntl1, motorOf}
 use Rattle.unit.specs.Stepping.{pinOut, pinsOut, turnedOnce, prepared, matchSet, stepped, outcome}
 use Rattle.unit.specs.OneTick.{initialise, stepRequest, requestServed, matchServed, served}
 use Rattle.channel.specs.Record.{withLevelIn, inPhase, standing}
@@ -43,9 +43,13 @@ pins-parts s c = levels-each (size s c) c s
 
 -- ---- words and channels
 
+-- a state with these words, registers, pins and channels, all else of s
+abbrev remade : State → List ℕ → List ℕ → ℕ → List Channel → State
+remade s l r p x = record { words = l; regs = r; timers = s .timers; pins = p; channels = x; slots = s .slots }
+
 -- words and channels of t, all else of s
 abbrev over : State → State → State
-over s t = record { words = t .words; regs = s .regs; timers = s .timers; pins = s .pins; channels = t .channels }
+over s t = remade s (t .words) (s .regs) (s .pins) (t .channels)
 
 prepared-over : (w : Way) (m j : ℕ) (s t : State) → prepared w m j (over s t) ≡ over s (prepared w m j t)
 unfolding prepared withLevel withWord withWords withChannel channel channelControl pinControl word
@@ -99,7 +103,10 @@ pub channels-after : (o : Outcome) (l : List ℕ) (x y : List Channel) (z : Chan
 unfolding channelsAfter
 channels-after o l x y z c now time e f = rw (f, e)
 
-set-match : (b : Bool) (u : State) (c : ℕ) (w : Way) (now time : ℕ) → pick b (withPhase (pinsOut u c) c w (Matched now)) (withPhase u c w (Armed time)) ≡ record { words = u .words; regs = u .regs; timers = u .timers; pins = pick b (levelsOut (size u c) c (u .channels) (u .pins)) (u .pins); channels = set (u .channels) c (inPhase (channel u c) w (pick b (Matched now) (Armed time))) }
+set-match : (b : Bool) (u : State) (c : ℕ) (w : Way) (now time : ℕ)
+    → pick b (withPhase (pinsOut u c) c w (Matched now)) (withPhase u c w (Armed time))
+    ≡ remade u (u .words) (u .regs) (pick b (levelsOut (size u c) c (u .channels) (u .pins)) (u .pins))
+    (set (u .channels) c (inPhase (channel u c) w (pick b (Matched now) (Armed time))))
 unfolding withPhase withChannel withPins channel
 set-match true u c w now time = rw (pins-parts u c)
 set-match false u c w now time = refl
@@ -107,7 +114,9 @@ set-match false u c w now time = refl
 -- the state after what was decided, part by part
 abbrev parted : Outcome → State → ℕ → ℕ → ℕ → State → State
 parted o s c now time t =
-    record { words = t .words; regs = set (s .regs) 11 (statusAfter o (getD (s .regs) 11 0) c); timers = s .timers; pins = pinsAfter o (due now time) (t .channels) (s .pins) c (sizeIn (getD (t .words) (8 * c + 5) 0) c); channels = set (t .channels) c (standing o (getD (t .channels) c idle) now time) }
+    remade s (t .words) (set (s .regs) 11 (statusAfter o (getD (s .regs) 11 0) c))
+    (pinsAfter o (due now time) (t .channels) (s .pins) c (sizeIn (getD (t .words) (8 * c + 5) 0) c))
+    (set (t .channels) c (standing o (getD (t .channels) c idle) now time))
 
 as-parted : (o : Outcome) (s : State) (c r : ℕ) → outcome s c r o ≡ parted o s c (timeFor s c) (later r (periodIn (s .words) c)) (moved o c (bare (s .words) (s .channels)))
 unfolding outcome stepped matchSet moved withStatus withReg withPhase withChannel reg channel statusAfter pinsAfter standing cntl0 cntl1 nextRate word size last
@@ -117,22 +126,36 @@ as-parted (Step w k) s c r =
     let t = moved (Step w k) c (bare (s .words) (s .channels)) in
     let n = timeFor (over s t) c in
     let e : n ≡ timeFor s c = ap (λ i. timeBy i (s .timers)) (moved-timer (Step w k) c (bare (s .words) (s .channels))) in
+    let pins : ℕ → ℕ = λ i. pick (due i time) (levelsOut (size t c) c (t .channels) (s .pins)) (s .pins) in
+    let channels : ℕ → List Channel = λ i. set (t .channels) c (inPhase (channel t c) w (pick (due i time) (Matched i) (Armed time))) in
     ap (λ u. matchSet u c w time) (moved-parts (Step w k) c s)
     ∙ (set-match (due n time) (over s t) c w n time
-    ∙ (ap (λ i. record { words = t .words; regs = s .regs; timers = s .timers; pins = pick (due i time) (levelsOut (size t c) c (t .channels) (s .pins)) (s .pins); channels = set (t .channels) c (inPhase (channel t c) w (pick (due i time) (Matched i) (Armed time))) }) e
-    ∙ ap (λ l. record { words = t .words; regs = l; timers = s .timers; pins = pick (due (timeFor s c) time) (levelsOut (size t c) c (t .channels) (s .pins)) (s .pins); channels = set (t .channels) c (inPhase (channel t c) w (pick (due (timeFor s c) time) (Matched (timeFor s c)) (Armed time))) }) (sym (set-getD (s .regs) 11 0))))
+    ∙ (ap (λ i. remade s (t .words) (s .regs) (pins i) (channels i)) e
+    ∙ ap (λ l. remade s (t .words) l (pins (timeFor s c)) (channels (timeFor s c))) (sym (set-getD (s .regs) 11 0))))
 
 -- the same, the pins worked out from the channels as they are then
-outcome-parts : (o : Outcome) (s : State) (c r : ℕ) → record { words = (moved o c (bare (s .words) (s .channels))) .words; regs = set (s .regs) 11 (statusAfter o (getD (s .regs) 11 0) c); timers = s .timers; pins = pinsAfter o (due (timeFor s c) (later r (periodIn (s .words) c))) (channelsAfter o (s .words) (s .channels) c (timeFor s c) (later r (periodIn (s .words) c))) (s .pins) c (sizeIn (getD ((moved o c (bare (s .words) (s .channels))) .words) (8 * c + 5) 0) c); channels = channelsAfter o (s .words) (s .channels) c (timeFor s c) (later r (periodIn (s .words) c)) } ≡ outcome s c r o
+outcome-parts : (o : Outcome) (s : State) (c r : ℕ) →
+    let t = moved o c (bare (s .words) (s .channels)) in
+    let time = later r (periodIn (s .words) c) in
+    let x = channelsAfter o (s .words) (s .channels) c (timeFor s c) time in
+    remade s (t .words) (set (s .regs) 11 (statusAfter o (getD (s .regs) 11 0) c))
+    (pinsAfter o (due (timeFor s c) time) x (s .pins) c (sizeIn (getD (t .words) (8 * c + 5) 0) c)) x ≡ outcome s c r o
 unfolding channelsAfter
 outcome-parts o s c r =
     let t = moved o c (bare (s .words) (s .channels)) in
-    rw (pins-kept o (due (timeFor s c) (later r (periodIn (s .words) c))) (t .channels) (s .pins) c (sizeIn (getD (t .words) (8 * c + 5) 0) c) (timeFor s c) (later r (periodIn (s .words) c))) (sym (as-parted o s c r))
+    let time = later r (periodIn (s .words) c) in
+    rw (pins-kept o (due (timeFor s c) time) (t .channels) (s .pins) c (sizeIn (getD (t .words) (8 * c + 5) 0) c) (timeFor s c) time)
+    (sym (as-parted o s c r))
 
 -- a test, by what it decides, at the time of the group
-pub test-parts : (s : State) (c : ℕ) (x : Channel) (now : ℕ) → x .way ≡ (channel s c) .way → now ≡ timeFor s c → record { words = (moved (decidedIn (s .words) c x) c (bare (s .words) (s .channels))) .words; regs = set (s .regs) 11 ((testedIn (decidedIn (s .words) c x) (timeIn (s .words) c x now) (s .words) (s .channels) (s .pins) (getD (s .regs) 11 0) c now) .status); timers = s .timers; pins = (testedIn (decidedIn (s .words) c x) (timeIn (s .words) c x now) (s .words) (s .channels) (s .pins) (getD (s .regs) 11 0) c now) .pins; channels = (testedIn (decidedIn (s .words) c x) (timeIn (s .words) c x now) (s .words) (s .channels) (s .pins) (getD (s .regs) 11 0) c now) .channels } ≡ outcome s c (reference (x .phase) (timeFor s c)) (decided (x .phase) (motorOf s c))
+pub test-parts : (s : State) (c : ℕ) (x : Channel) (now : ℕ) → x .way ≡ (channel s c) .way → now ≡ timeFor s c →
+    let o = decidedIn (s .words) c x in
+    let e = testedIn o (timeIn (s .words) c x now) (s .words) (s .channels) (s .pins) (getD (s .regs) 11 0) c now in
+    remade s ((moved o c (bare (s .words) (s .channels))) .words) (set (s .regs) 11 (e .status)) (e .pins) (e .channels)
+    ≡ outcome s c (reference (x .phase) (timeFor s c)) (decided (x .phase) (motorOf s c))
 unfolding testedIn decidedIn timeIn motorOf position target nextRate top word
-test-parts s c x now e f = rw (← e, f) (outcome-parts (decided (x .phase) (motorIn (s .words) c (x .way))) s c (reference (x .phase) (timeFor s c)))
+test-parts s c x now e f =
+    rw (← e, f) (outcome-parts (decided (x .phase) (motorIn (s .words) c (x .way))) s c (reference (x .phase) (timeFor s c)))
 
 -- ---- a service
 
@@ -152,11 +175,11 @@ asked-to-step (suc (suc (suc zero))) f i w s h = refl
 asked-to-step (suc (suc (suc (suc n)))) f i w s h = absurd (omega (arith, h))
 
 -- the request, and then the test
-abbrev pub first : Bool → ℕ → ℕ → State → State
-first on r c s = pick (pick on (leb 2 r) false) (requestDone s c r) s
+abbrev pub first : ℕ → ℕ → State → State
+first r c s = pick (leb 2 r) (requestDone s c r) s
 
-abbrev pub then : Bool → ℕ → Phase → ℕ → State → State
-then on r p c t = pick (isTested on r p) (outcome t c (reference p (timeFor t c)) (decided p (motorOf t c))) t
+abbrev pub then : ℕ → Phase → ℕ → State → State
+then r p c t = pick (isTested r p) (outcome t c (reference p (timeFor t c)) (decided p (motorOf t c))) t
 
 -- the request leaves the direction and the timer
 way-kept : (a b : Bool) (c : ℕ) (s : State) → (channel (pick a (pick b (initialise c (withRequest s c 0)) (withRequest s c 0)) s) c) .way ≡ (channel s c) .way
@@ -171,25 +194,26 @@ timer-kept true true c s = kept (λ x. x .timer) (s .channels) c c _ refl
 timer-kept true false c s = refl
 timer-kept false b c s = refl
 
-pub same-timer : (on : Bool) (r c : ℕ) (s t : State) → t ≡ first on r c s → (channel s c) .timer ≡ (channel t c) .timer
+pub same-timer : (r c : ℕ) (s t : State) → t ≡ first r c s → (channel s c) .timer ≡ (channel t c) .timer
 unfolding requestDone
-same-timer on r c s t e = rw e (sym (timer-kept (pick on (leb 2 r) false) (eqb r 2) c s))
+same-timer r c s t e = rw e (sym (timer-kept (leb 2 r) (eqb r 2) c s))
 
-pub same-way : (on : Bool) (r c : ℕ) (s t : State) → t ≡ first on r c s → (channel s c) .way ≡ (channel t c) .way
+pub same-way : (r c : ℕ) (s t : State) → t ≡ first r c s → (channel s c) .way ≡ (channel t c) .way
 unfolding requestDone
-same-way on r c s t e = rw e (sym (way-kept (pick on (leb 2 r) false) (eqb r 2) c s))
+same-way r c s t e = rw e (sym (way-kept (leb 2 r) (eqb r 2) c s))
 
-in-turn : (on : Bool) (r : ℕ) (p : Phase) (c : ℕ) (s : State) → r < 4 → then on r p c (first on r c s) ≡ pick on (matchServed p c (pick (eqb r 2) (initialise c (withRequest s c 0)) (pick (eqb r 3) (stepRequest p c (withRequest s c 0)) s))) s
+in-turn : (r : ℕ) (p : Phase) (c : ℕ) (s : State) → r < 4 →
+    let t = withRequest s c 0 in
+    then r p c (first r c s) ≡ matchServed p c (pick (eqb r 2) (initialise c t) (pick (eqb r 3) (stepRequest p c t) s))
 unfolding isTested reference decided requestDone matchServed stepRequest
-in-turn false r p c s h = refl
-in-turn true r Resting c s h = asked-to-step r (λ t. outcome t c (timeFor t c) (onRequest (motorOf t c))) (initialise c (withRequest s c 0)) (withRequest s c 0) s h
-in-turn true r Requested c s h = asked-to-step r (λ t. outcome t c (timeFor t c) (onRequest (motorOf t c))) (initialise c (withRequest s c 0)) (withRequest s c 0) s h
-in-turn true r (Armed time) c s h = asked r (initialise c (withRequest s c 0)) (withRequest s c 0) s h
-in-turn true r (Matched captured) c s h = ap (λ t. outcome t c captured (onMatch (motorOf t c))) (asked r (initialise c (withRequest s c 0)) (withRequest s c 0) s h)
+in-turn r Resting c s h = asked-to-step r (λ t. outcome t c (timeFor t c) (onRequest (motorOf t c))) _ (withRequest s c 0) s h
+in-turn r Requested c s h = asked-to-step r (λ t. outcome t c (timeFor t c) (onRequest (motorOf t c))) _ (withRequest s c 0) s h
+in-turn r (Armed time) c s h = asked r _ (withRequest s c 0) s h
+in-turn r (Matched captured) c s h = ap (λ t. outcome t c captured (onMatch (motorOf t c))) (asked r _ (withRequest s c 0) s h)
 
-served-in-turn : (s : State) (c : ℕ) → then (enabled s c) (request s c) ((channel s c) .phase) c (first (enabled s c) (request s c) c s) ≡ served c s
+served-in-turn : (s : State) (c : ℕ) → then (request s c) ((channel s c) .phase) c (first (request s c) c s) ≡ served c s
 unfolding served requestServed request
-served-in-turn s c = in-turn (enabled s c) (request s c) ((channel s c) .phase) c s (omega (arith, field-lt 2 (reg s (hsrrOf c)) (2 * (c % 8))))
+served-in-turn s c = in-turn (request s c) ((channel s c) .phase) c s (omega (arith, field-lt 2 (reg s (hsrrOf c)) (2 * (c % 8))))
 
 -- ---- one channel: word 0 is found without adding 0
 
@@ -223,7 +247,10 @@ arrival-moves o c s a = rw a
 
 -- ---- the scans
 
-pub match-parts : (s : State) (c : ℕ) → record { words = s .words; regs = s .regs; timers = s .timers; pins = levelsOut (sizeIn (getD (s .words) (8 * c + 5) 0) c) c (s .channels) (s .pins); channels = set (s .channels) c (inPhase (getD (s .channels) c idle) ((getD (s .channels) c idle) .way) (Matched (timeFor s c))) } ≡ withPhase (pinsOut s c) c ((channel s c) .way) (Matched (timeFor s c))
+pub match-parts : (s : State) (c : ℕ)
+    → remade s (s .words) (s .regs) (levelsOut (sizeIn (getD (s .words) (8 * c + 5) 0) c) c (s .channels) (s .pins))
+    (set (s .channels) c (inPhase (getD (s .channels) c idle) ((getD (s .channels) c idle) .way) (Matched (timeFor s c))))
+    ≡ withPhase (pinsOut s c) c ((channel s c) .way) (Matched (timeFor s c))
 unfolding withPhase withChannel withPins channel size last word
 match-parts s c = rw (pins-parts s c) refl
 
@@ -231,41 +258,7 @@ match-parts s c = rw (pins-parts s c) refl
 pub in-sixteen : (w c : ℕ) → c < 16 → c + sizeIn w c ≤ 16
 in-sixteen w c h = omega (arith, h, field-lt 4 w 0)
 
-pub served-by : (s t u : State) (c : ℕ) (on : Bool) (r : ℕ) → on ≡ enabled s c → r ≡ request s c → t ≡ first on r c s → u ≡ then on r ((channel s c) .phase) c t → u ≡ served c s
-served-by s t u c on r e f g h = h ∙ (ap (then on r ((channel s c) .phase) c) g ∙ (rw (e, f) (served-in-turn s c)))
-
--- ---- the words keep their number
-
-prepared-long : (n c : ℕ) (w : Way) (m : ℕ) (t : State) → length ((each n c (prepared w m) t) .words) ≡ length (t .words)
-unfolding each prepared withLevel withWord withWords withChannel
-prepared-long zero c w m t = refl
-prepared-long (suc n) c w m t = rw length-set (prepared-long n c w m t)
-
-moved-long : (o : Outcome) (c : ℕ) (t : State) → length ((moved o c t) .words) ≡ length (t .words)
-unfolding moved withWord withWords
-moved-long Arrived c t = refl
-moved-long (Step w k) c t = prepared-long (size t c) c w _ _ ∙ rw (length-set, length-set) refl
-
-first-long : (a b : Bool) (c : ℕ) (s : State) → length ((pick a (pick b (initialise c (withRequest s c 0)) (withRequest s c 0)) s) .words) ≡ length (s .words)
-unfolding initialise withRequest withStatus withReg withSetUp withChannel withWord withWords withPin withPins
-first-long true true c s = rw length-set
-first-long true false c s = refl
-first-long false b c s = refl
-
-then-long : (b : Bool) (o : Outcome) (c r : ℕ) (t : State) → length ((pick b (outcome t c r o) t) .words) ≡ length (t .words)
-then-long true o c r t = rw (← outcome-parts o t c r) (moved-long o c (bare (t .words) (t .channels)))
-then-long false o c r t = refl
-
-served-long : (c : ℕ) (s : State) → length ((served c s) .words) ≡ length (s .words)
-unfolding requestDone
-served-long c s =
-    let on = enabled s c in
-    let r = request s c in
+pub served-by : (s t u : State) (c r : ℕ) → r ≡ request s c → t ≡ first r c s → u ≡ then r ((channel s c) .phase) c t → u ≡ served c s
+served-by s t u c r f g h =
     let p = (channel s c) .phase in
-    let t = first on r c s in
-    rw (← served-in-turn s c) (then-long (isTested on r p) (decided p (motorOf t c)) c (reference p (timeFor t c)) t ∙ first-long (pick on (leb 2 r) false) (eqb r 2) c s)
-
-pub all-served-long : (n : ℕ) (s : State) → length ((each n 0 served s) .words) ≡ length (s .words)
-unfolding each
-all-served-long zero s = refl
-all-served-long (suc n) s = served-long (0 + n) (each n 0 served s) ∙ all-served-long n s
+    h ∙ (ap (then r p c) g ∙ subst (λ r. then r p c (first r c s) ≡ served c s) (sym f) (served-in-turn s c))

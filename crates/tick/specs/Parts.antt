@@ -1,6 +1,6 @@
 -- What a tick does to each part of the state, so that the functions of this crate can be stated part by part. What the whole is,
 -- crate unit says: "One tick" and "Stepping" of document 01.
-use Prim.Native.Nat.{ℕ, zero, suc, _+_, _-_, _*_}
+use Prim.Native.Nat.{ℕ, zero, suc, _+_, _-_, _*_, _%_}
 use mathlib.Core.Bool.{Bool}
 use mathlib.Core.List.{List, []}
 use lib.Dec.{eqb}
@@ -8,6 +8,7 @@ use lib.ListN.{getD, set}
 use Rattle.words.specs.Choice.{pick}
 use Rattle.words.specs.Clock.{due, later}
 use Rattle.words.specs.Field.{field, withField, bitOf, bitValue}
+use Rattle.slots.specs.Slots.{resetSlots}
 use Rattle.motor.specs.declared.Way.{Way}
 use Rattle.motor.specs.declared.Motor.{Motor}
 use Rattle.motor.specs.declared.Outcome.{Outcome}
@@ -15,7 +16,7 @@ use Rattle.motor.specs.declared.Outcome.the-variants.{Arrived, Step}
 use Rattle.motor.specs.Stepping.{period, beside}
 use Rattle.unit.specs.declared.Channel.{Channel}
 use Rattle.unit.specs.declared.State.{State}
-use Rattle.unit.specs.TheUnit.{idle, each, withRequest, word, withWord, position, modCount, size}
+use Rattle.unit.specs.TheUnit.{idle, each, hsrrOf, withRequest, word, withWord, position, modCount, size}
 use Rattle.unit.specs.Stepping.{nextCount, turnedOnce, prepared}
 use Rattle.unit.specs.OneTick.{initialise}
 use Rattle.channel.specs.Record.{standing}
@@ -39,6 +40,10 @@ levelsOut (suc n) c x p = withField 1 (levelsOut n c x p) (c + n) (bitValue ((ge
 abbrev pub motorIn : List ℕ → ℕ → Way → Motor
 motorIn l c w =
     record { position = getD l (8 * c + 2) 0; target = getD l (8 * c + 3) 0; rate = field 4 (getD l (8 * c + 4) 0) 0; top = field 4 (getD l (8 * c + 5) 0) 8; way = w }
+
+-- the pending request of channel c, by the registers
+abbrev pub requestIn : List ℕ → ℕ → ℕ
+requestIn regs c = field 2 (getD regs (hsrrOf c) 0) (2 * (c % 8))
 
 -- a request is no longer pending; one to initialise does that, one to step is for the test that follows
 unfoldable pub requestDone : State → ℕ → ℕ → State
@@ -76,7 +81,7 @@ moved (Step w k) c s =
 
 -- a state of which nothing but words and channels is asked
 abbrev pub bare : List ℕ → List Channel → State
-bare l x = record { words = l; regs = []; timers = record { tcr1 = 0; tcr2 = 0 }; pins = 0; channels = x }
+bare l x = record { words = l; regs = []; timers = record { tcr1 = 0; tcr2 = 0 }; pins = 0; channels = x; slots = resetSlots }
 
 -- the pins: they change where the match of a step is due as it is set
 unfoldable pub pinsAfter : Outcome → Bool → List Channel → ℕ → ℕ → ℕ → ℕ

@@ -1,15 +1,20 @@
-// One tick: the timers, then the matches, then the services, channel by channel. The state is copied nowhere on the way but for a
-// request: the scans look at small values, and a match or a step changes the parts of the state in place.
+// One tick: the timers and the slot, then the matches, then the service of one channel. The state is copied nowhere on the way but for
+// a request: the scans look at small values, and a match or a step changes the parts of the state in place.
 mod matches;
+mod ready;
 mod request;
 mod step;
 
 ghost use mathlib.Core.Path.{_≡_};
+ghost use Prim.Native.Nat.{_<_};
+ghost use Rattle.slots.specs.Slots.{chosen};
 ghost use Rattle.unit.specs.TheUnit.{each};
-ghost use Rattle.unit.specs.OneTick.{matched, served, tick};
+ghost use Rattle.unit.specs.OneTick.{matched, served, slotServed, tick};
+ghost use Rattle.unit.specs.Pending.{asksOf};
 use channel::pending;
 use channel::record;
 use channel::service;
+use slots::Service;
 use unit::State;
 use words::clock;
 
@@ -31,32 +36,47 @@ fn match_all(mut s: State) -> State
     s
 }
 
-fn serve_all(mut s: State) -> State
-    ensures { λ r. ⌜ r ≡ each 16 0 served s ⌝ }
+// The service of one channel.
+fn serve(mut s: State, c: u16) -> State
+    requires { ⌜ c < 16 ⌝ }
+    ensures { λ r. ⌜ r ≡ served c s ⌝ }
 {
-    for c in 0..16 {
-        let x = s.channels[c as usize];
-        let phase = x.phase;
-        let r = request::pending(&s.regs, c);
-        let on = request::is_enabled(&s.regs, c);
-        if service::is_asked(on, r) {
-            s = request::done(s, c, r);
-        }
-        if service::is_tested(on, r, phase) {
-            let before = s.channels;
-            let pins = s.pins;
-            let status = s.regs[11];
-            let timer = x.timer;
-            let timers = s.timers;
-            let now = clock::time_by(timer, timers);
-            let t = step::tested(&mut s.words, before, pins, status, c, x, now);
-            let after = t.channels;
-            s.channels = after;
-            s.pins = t.pins;
-            s.regs[11] = t.status;
-        }
+    let x = s.channels[c as usize];
+    let phase = x.phase;
+    let r = request::pending(&s.regs, c);
+    if 2 <= r {
+        s = request::done(s, c, r);
+    }
+    if service::is_tested(r, phase) {
+        let before = s.channels;
+        let pins = s.pins;
+        let status = s.regs[11];
+        let timer = x.timer;
+        let timers = s.timers;
+        let now = clock::time_by(timer, timers);
+        let t = step::tested(&mut s.words, before, pins, status, c, x, now);
+        let after = t.channels;
+        s.channels = after;
+        s.pins = t.pins;
+        s.regs[11] = t.status;
     }
     s
+}
+
+// The channel that the slot goes to, if any is ready.
+fn serve_next(mut s: State) -> State
+    ensures { λ r. ⌜ r ≡ slotServed (chosen (s .slots) (asksOf s)) s ⌝ }
+{
+    let slots = s.slots;
+    let channels = s.channels;
+    let v = slots::choose(slots, ready::ready(&s.regs, channels));
+    match v {
+        Service::Of(c, t) => {
+            s.slots = t;
+            serve(s, c)
+        }
+        Service::Nobody => s,
+    }
 }
 
 pub fn tick(mut s: State) -> State
@@ -65,8 +85,10 @@ pub fn tick(mut s: State) -> State
     let before = s.timers;
     let timers = clock::onward(1, before);
     s.timers = timers;
+    let slots = s.slots;
+    s.slots = slots.ticked();
     if matches::is_calm(s.regs[7], s.regs[8], s.channels, timers) {
         return s;
     }
-    serve_all(match_all(s))
+    serve_next(match_all(s))
 }

@@ -9,8 +9,9 @@ use lib.ListN.{length, take, drop, set, getD, replicate, length-drop, length-app
 use lib.Seq.{take-all, take-at, drop-at, drop-drop, drop-cons, set-at}
 use borrow.Rule.Slice.PartMut.{putMid}
 use Rattle.words.specs.declared.Timers.{Timers}
+use Rattle.slots.specs.declared.Slots.{Slots}
 use Rattle.unit.specs.declared.State.{State}
-use Rattle.unit.specs.TheUnit.{withTimers}
+use Rattle.unit.specs.TheUnit.{withTimers, withSlots}
 use Rattle.unit.specs.OneTick.{tick, afterTicks}
 use Rattle.unit.specs.Calls.{pinWords}
 use Rattle.unit.specs.Quiet.{quietBelow}
@@ -53,15 +54,16 @@ unfolding pinWords
 pin-words-long zero s = refl
 pin-words-long (suc n) s = rw (length-append, pin-words-long n s) (add-one n)
 
-pub pins-of : (s : State) (t : Timers) → (withTimers s t) .pins ≡ s .pins
-unfolding withTimers
-pins-of s t = refl
+pub pins-of : (s : State) (t : Timers) (z : Slots) → (withSlots (withTimers s t) z) .pins ≡ s .pins
+unfolding withTimers withSlots
+pins-of s t z = refl
 
 -- quiet ticks show the pins as they are
 pub quiet-pins : (q : ℕ) (s : State) → s .timers .tcr1 < 65536 → s .timers .tcr2 < 65536 → q ≤ quietBelow 16 s → pinWords q s ≡ replicate q (s .pins)
 unfolding pinWords
 quiet-pins zero s f g h = refl
-quiet-pins (suc q) s f g h = rw (quiet-pins q s f g (omega (arith, h)), quiet-ticks s (suc q) f g h, pins-of) (replicate-end q (s .pins))
+quiet-pins (suc q) s f g h =
+    rw (quiet-pins q s f g (omega (arith, h)), quiet-ticks s (suc q) f g (omega arith) h, pins-of) (replicate-end q (s .pins))
 
 pub lent-long : (i : ℕ) (s : State) (old : List ℕ) → i ≤ length old → length (pinWords i s ++ drop i old) ≡ length old
 lent-long i s old h = rw (length-append, pin-words-long, length-drop) (omega (arith, h))

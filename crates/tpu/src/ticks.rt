@@ -3,24 +3,14 @@ ghost use mathlib.Core.Path.{_≡_};
 ghost use mathlib.Core.List.{_++_};
 ghost use Prim.Native.Nat.{_≤_, _<_};
 ghost use lib.ListN.{length, drop, replicate};
-ghost use Rattle.unit.specs.TheUnit.{withTimers};
 ghost use Rattle.unit.specs.OneTick.{afterTicks};
 ghost use Rattle.unit.specs.Calls.{pinWords};
 use unit::State;
-use words::Timers;
-use words::clock;
 
 // Some ticks at once, which all end with the same pin word.
 struct Leap {
     ticks: u16,
     state: State,
-}
-
-fn at_time(mut s: State, t: Timers) -> State
-    ensures { λ r. ⌜ r ≡ withTimers s t ⌝ }
-{
-    s.timers = t;
-    s
 }
 
 // The quiet ticks, or one tick in which something happens; at most as many as there is room for.
@@ -36,8 +26,7 @@ fn onward(s: State, room: u16) -> Leap
             state: next,
         };
     }
-    let timers = s.timers;
-    let next = at_time(s, clock::onward(q, timers));
+    let next = quiet::passed(s, q);
     Leap {
         ticks: q,
         state: next,

@@ -124,6 +124,7 @@ fn drawn(s: Session, line: &[u8], out: &mut [u8]) -> Session
     let kept = s.kept;
     let waiting = s.waiting;
     let r = drawing::draw(s.seen, s.state, s.ticks, &line[..kept], &mut out[waiting..]);
+    let filled = waiting + r.length;
     let state = r.state;
     let seen = r.seen;
     Session {
@@ -131,7 +132,7 @@ fn drawn(s: Session, line: &[u8], out: &mut [u8]) -> Session
         seen,
         ticks: r.ticks,
         kept: 0,
-        waiting: waiting + r.length,
+        waiting: filled,
         open: s.open,
     }
 }

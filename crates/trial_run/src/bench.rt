@@ -88,9 +88,10 @@ pub fn look(s: State, address: u16) -> u16 {
     }
 }
 
-fn ticked(s: State) -> State {
-    let mut lent = [0u16; 1];
-    let r = tpu::advance(s, 1, &mut lent);
+// A tick for each of the eight channels.
+fn served(s: State) -> State {
+    let mut lent = [0u16; 8];
+    let r = tpu::advance(s, 8, &mut lent);
     r.state
 }
 
@@ -117,7 +118,7 @@ fn board() -> State {
     let s = wound(wound(s, 4), 6);
     let s = put(s, HSRR0, 0x00AA);
     let s = put(s, HSRR1, 0xAA00);
-    put(ticked(s), CISR, 0)
+    put(served(s), CISR, 0)
 }
 
 // All that a trial sets, at rest.

@@ -1,5 +1,5 @@
 // Runs the trials of document 01 over the calls of the timer unit and prints what they measure, a line a trial.
-// The expected lines, beside this folder in `stdout`, are worked out by hand from that document and #103 of paper 02.
+// The expected lines, beside this folder in `stdout`, are worked out by hand from that document and #103 and #107 of paper 02.
 mod bench;
 mod run;
 mod show;
@@ -33,8 +33,10 @@ fn listing() {
     show::answer(tpu::advance(w.state, 2, &mut lent));
 }
 
-// The ends of question 8, and each ramp driven to its top rate both ways.
+// The ends of questions 8 and 14, and each ramp driven to its top rate both ways.
 fn ramps() {
+    ramp(20, 208, 3);
+    ramp(20, 207, 3);
     ramp(20, 81, 3);
     ramp(20, 80, 3);
     ramp(0, 32767, 3);
@@ -45,7 +47,7 @@ fn ramps() {
     periods(20, 440, 10, 60, 0);
     periods(77, 3487, 14, 0, 60);
     periods(77, 3487, 14, 60, 0);
-    periods(20, 81, 3, 0, 60);
+    periods(20, 208, 3, 0, 60);
     periods(0, 32767, 1, 0, 60);
 }
 
@@ -111,7 +113,7 @@ fn reached(r: Run) {
 
 // The motor rests until TCR1 is near $FFFF.
 fn wrap(from: u16, to: u16) {
-    let r = run::asked(bench::ready(Setting::travel(from, to)), 65025);
+    let r = run::asked(bench::ready(Setting::travel(from, to)), 65018);
     show::named_word(b"wrap from TCR1", r.state.timers.tcr1);
     show::route(b",", from, to);
     run::arrival(r);

@@ -8,14 +8,15 @@ use mathlib.Core.Path.{_≡_, refl, sym, ap, _∙_}
 use lib.Dec.{ltb, eqb}
 use borrow.Author.Tests.{ltb-true, eq-eqb}
 use Rattle.words.specs.Choice.{pick}
-use Rattle.words.specs.declared.Timers.{Timers}
+use Rattle.slots.specs.Slots.{idled}
 use Rattle.words.specs.Clock.{onward}
 use Rattle.words.proofs.ChoiceLaws.{not-both}
 use Rattle.unit.specs.declared.State.{State}
-use Rattle.unit.specs.TheUnit.{withTimers, channel, word, status, position, nextRate, last, any, stepping, reaches, isBound}
+use Rattle.unit.specs.TheUnit.{withTimers, withSlots, channel, word, status, position, nextRate, last, any, stepping, reaches, isBound}
 use Rattle.unit.specs.OneTick.{tick, afterTicks}
 use Rattle.unit.specs.Quiet.{quietBelow}
 use Rattle.unit.specs.Calls.{writeOf}
+use Rattle.history.proofs.Calls.{tick-last}
 use Rattle.unit.proofs.Quiet.{quiet-ticks}
 use Rattle.trials.specs.Trials.{goes, stepTicks, ticked, positions, Trial, Period, Request, Steps, Back, Level, Due, sameList, holds}
 
@@ -34,10 +35,14 @@ look moved stopped k s t rest =
       | false ↦ stopped k t rest
     ]
 
+-- only the timers and the slot have gone on, by q ticks
+unfoldable pub onwardBy : ℕ → State → State
+onwardBy q s = withSlots (withTimers s (onward q (s .timers))) (idled q (s .slots))
+
 -- the next of n + 1 ticks is tick k: q of them are left out, or, where q is 0, one is looked at; `go` does the rest
 abbrev goOn : {A : Type 0} → (ℕ → State → State → A → A) → (ℕ → ℕ → State → A) → ℕ → ℕ → State → ℕ → A
 goOn eye go n k s zero = let t = tick s in eye k s t (go n (suc k) t)
-goOn eye go n k s (suc q) = go (n - q) (k + suc q) (withTimers s (onward (suc q) (s .timers)))
+goOn eye go n k s (suc q) = go (n - q) (k + suc q) (onwardBy (suc q) s)
 
 -- a run in at most f leaps and looks, and then tick by tick
 unfoldable pub leapt : {A : Type 0} → (ℕ → ℕ → State → A) → (ℕ → State → State → A → A) → ℕ → ℕ → ℕ → State → A
@@ -48,13 +53,22 @@ leapt run eye (suc f) (suc n) k s = goOn eye (leapt run eye f) n k s (quietOf (s
 -- ---- leaps make the run
 
 -- the timers are none of what a look looks at
-bound-time : (s : State) (t : Timers) → isBound (withTimers s t) 4 ≡ isBound s 4
-unfolding isBound stepping reaches any channel last word withTimers
-bound-time s t = refl
+bound-time : (s : State) (q : ℕ) → isBound (onwardBy q s) 4 ≡ isBound s 4
+unfolding isBound stepping reaches any channel last word withTimers withSlots onwardBy
+bound-time s q = refl
 
-position-time : (s : State) (t : Timers) → position (withTimers s t) 4 ≡ position s 4
-unfolding position word withTimers
-position-time s t = refl
+position-time : (s : State) (q : ℕ) → position (onwardBy q s) 4 ≡ position s 4
+unfolding position word withTimers withSlots onwardBy
+position-time s q = refl
+
+quiet-by : (s : State) (q : ℕ) → s .timers .tcr1 < 65536 → s .timers .tcr2 < 65536 → suc q ≤ quietBelow 16 s → afterTicks (suc q) s ≡ onwardBy (suc q) s
+unfolding onwardBy
+quiet-by s q h g l = quiet-ticks s (suc q) h g (omega arith) l
+
+quiet-position : (s : State) (q : ℕ) → s .timers .tcr1 < 65536 → s .timers .tcr2 < 65536 → q ≤ quietBelow 16 s → position (afterTicks q s) 4 ≡ position s 4
+unfolding afterTicks
+quiet-position s zero h g l = refl
+quiet-position s (suc q) h g l = ap (λ (t : State). position t 4) (quiet-by s q h g l) ∙ position-time s (suc q)
 
 -- where some may be left out, all tests hold
 allowed : (a b c : Bool) (x q : ℕ) → suc q ≤ pick (a && (b && c)) x 0 → (a ≡ true) × (b ≡ true) × (c ≡ true) × (suc q ≤ x)
@@ -86,10 +100,9 @@ module _ {A : Type 0} (run : ℕ → ℕ → State → A) (moved stopped : ℕ �
       rw (d, j)
   skips (suc q) n m k s e b h g l =
       let u = afterTicks q s in
-      let before : u ≡ withTimers s (onward q (s .timers)) = quiet-ticks s q h g (omega (arith, l)) in
-      let behind : tick u ≡ withTimers s (onward (suc q) (s .timers)) = quiet-ticks s (suc q) h g l in
-      let bound : isBound (tick u) 4 ≡ true = rw behind (bound-time s _ ∙ b) in
-      let there : position u 4 ≡ position (tick u) 4 = rw (behind, before) (position-time s _ ∙ sym (position-time s _)) in
+      let behind : tick u ≡ onwardBy (suc q) s = quiet-by s q h g l in
+      let bound : isBound (tick u) 4 ≡ true = ap (λ (t : State). isBound t 4) behind ∙ bound-time s (suc q) ∙ b in
+      let there : position u 4 ≡ position (tick u) 4 = quiet-position s q h g (omega (arith, l)) ∙ sym (ap (λ (t : State). position t 4) behind ∙ position-time s (suc q)) in
       let i : suc (k + q) ≡ k + suc q = omega arith in
       skips q n (suc m) k s (omega (arith, e)) b h g (omega (arith, l)) ∙ begins m (k + q) u
       ∙ passes moved stopped (k + q) u (tick u) (run m (suc (k + q)) (tick u)) bound there
@@ -104,8 +117,8 @@ module _ {A : Type 0} (run : ℕ → ℕ → State → A) (moved stopped : ℕ �
       let i : s .timers .tcr2 < 65536 = ltb-true (s .timers .tcr2) 65536 (a .2) in
       let quiet : suc q ≤ quietBelow 16 s = omega (arith, a .3, min-le-left (quietBelow 16 s) (suc n)) in
       let fits : suc n ≡ suc q + (n - q) = omega (arith, a .3, min-le-right (quietBelow 16 s) (suc n)) in
-      g (n - q) (k + suc q) (withTimers s (onward (suc q) (s .timers)))
-      ∙ sym (skips (suc q) (suc n) (n - q) k s fits (a .0) h i quiet ∙ ap (λ (t : State). run (n - q) (k + suc q) t) (quiet-ticks s (suc q) h i quiet))
+      g (n - q) (k + suc q) (onwardBy (suc q) s)
+      ∙ sym (skips (suc q) (suc n) (n - q) k s fits (a .0) h i quiet ∙ ap (λ (t : State). run (n - q) (k + suc q) t) (quiet-by s q h i quiet))
 
   pub leapt-is : (f n k : ℕ) (s : State) → leapt run (look moved stopped) f n k s ≡ run n k s
   unfolding leapt
@@ -154,7 +167,7 @@ tickedFrom n k s = ticked n s
 abbrev follows : ℕ → State → State → State
 follows k t rest = rest
 
-abbrev leaptTicked : ℕ → State → State
+abbrev pub leaptTicked : ℕ → State → State
 leaptTicked n = leapt tickedFrom (look follows follows) 40 n 1
 
 either : (b c : Bool) (x : State) → _≡_ {A = State} (elim b [ true ↦ x | false ↦ x ]) (elim b [ true ↦ elim c [ true ↦ x | false ↦ x ] | false ↦ x ])
@@ -166,8 +179,18 @@ tick-begins : (n k : ℕ) (s : State) → tickedFrom (suc n) k s ≡ look follow
 unfolding ticked look
 tick-begins n k s = either (isBound (tick s) 4) (eqb (position s 4) (position (tick s) 4)) (ticked n (tick s))
 
-ticked-is : (n : ℕ) (s : State) → leaptTicked n s ≡ ticked n s
+pub ticked-is : (n : ℕ) (s : State) → leaptTicked n s ≡ ticked n s
 ticked-is n s = leapt-is tickedFrom follows follows tick-begins 40 n 1 s
+
+-- ticks from the front are ticks from the end
+pub ticked-after : (n : ℕ) (s : State) → ticked n s ≡ afterTicks n s
+unfolding ticked afterTicks
+ticked-after zero s = refl
+ticked-after (suc n) s = looked (isBound (tick s) 4) ∙ ticked-after n (tick s) ∙ tick-last n s
+  where
+    looked : (b : Bool) → _≡_ {A = State} (elim b [ true ↦ ticked n (tick s) | false ↦ ticked n (tick s) ]) (ticked n (tick s))
+    looked true = refl
+    looked false = refl
 
 -- ---- the rows
 

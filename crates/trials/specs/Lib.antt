@@ -1,4 +1,3 @@
 pub mod Trials
 pub mod History
-pub mod Frames
 pub mod Winder

@@ -21,7 +21,7 @@ unfoldable pub ready : ℕ → ℕ → ℕ → ℕ → ℕ → List Call
 ready n c0 c1 here there =
     Write 0xe10 0x00dd ∷ Write 0xe1e 0x0500
     ∷ Write 0xf42 0xcccc ∷ Write 0xf40 0x0081 ∷ Write 0xf52 0x3333 ∷ Write 0xf50 0x0082
-    ∷ Write 0xe1a 0x0a00 ∷ Advance 1 (0 ∷ [])
+    ∷ Write 0xe1a 0x0a00 ∷ Advance 2 (0 ∷ 0 ∷ [])
     ∷ Write 0xf44 here ∷ Write 0xf46 there ∷ Write 0xf48 0x0001 ∷ Write 0xf4a (n * 256 + 5)
     ∷ Write 0xf54 c0 ∷ Write 0xf56 c1 ∷ []
 
@@ -94,7 +94,7 @@ holds (Due now time b) = same (due now time) b
 unfoldable pub table : List Trial
 table =
     Period 20 440 1 400 ∷ Period 20 440 10 220 ∷ Period 77 3487 1 3333 ∷ Period 77 3487 14 2332
-    ∷ Period 20 81 3 1 ∷ Request 3 20 81 0 ∷ Request 3 20 80 8 ∷ Request 3 0 32767 0 ∷ Request 3 0 32768 8
+    ∷ Period 20 81 3 1 ∷ Request 3 20 208 0 ∷ Request 3 20 207 14 ∷ Request 3 20 81 14 ∷ Request 3 20 80 8 ∷ Request 3 0 32767 0 ∷ Request 3 0 32768 8
     ∷ Steps 0 10 (1 ∷ 401 ∷ 781 ∷ 1141 ∷ 1501 ∷ 1861 ∷ 2221 ∷ 2581 ∷ 2941 ∷ 3321 ∷ 3721 ∷ [])
     ∷ Steps 0 3 (1 ∷ 401 ∷ 801 ∷ 1201 ∷ []) ∷ Steps 0 2 (1 ∷ 401 ∷ 801 ∷ []) ∷ Steps 0 0 (1 ∷ [])
     ∷ Steps 3 0 (1 ∷ 401 ∷ 801 ∷ 1201 ∷ []) ∷ Steps 2 0 (1 ∷ 401 ∷ 801 ∷ [])

@@ -10,6 +10,11 @@ use Rattle.words.specs.declared.Timers.{Timers}
 use Rattle.words.specs.Clock.{due, later, timeBy, onward}
 use Rattle.words.proofs.ChoiceLaws.{pick-cases}
 use Rattle.words.proofs.ClockLaws.{onward-add}
+use Rattle.slots.specs.declared.Slots.{Slots}
+use Rattle.slots.specs.declared.Service.{Service}
+use Rattle.slots.specs.declared.Service.the-variants.{Of, Nobody}
+use Rattle.slots.specs.Slots.{ticked}
+use Rattle.slots.proofs.Within.{one-service}
 use Rattle.motor.specs.declared.Way.{Way}
 use Rattle.motor.specs.declared.Phase.{Phase}
 use Rattle.motor.specs.declared.Phase.the-variants.{Resting, Requested, Armed, Matched}
@@ -17,29 +22,31 @@ use Rattle.motor.specs.declared.Outcome.{Outcome}
 use Rattle.motor.specs.declared.Outcome.the-variants.{Arrived, Step}
 use Rattle.unit.specs.declared.State.{State}
 use Rattle.unit.specs.declared.Channel.{Channel}
-use Rattle.unit.specs.TheUnit.{cisr, hsrrOf, reg, withReg, withTimers, withPins, withChannel, withWords, each, request, withRequest, enabled, withStatus, withPin, channel, withSetUp, withLevel, withPhase, timeFor, withWord, modCount, size}
+use Rattle.unit.specs.TheUnit.{cisr, hsrrOf, reg, withReg, withTimers, withPins, withChannel, withWords, each, request, withRequest, withSlots, withStatus, withPin, channel, withSetUp, withLevel, withPhase, timeFor, withWord, modCount, size}
 use Rattle.unit.specs.Stepping.{pinOut, pinsOut, nextCount, prepared, matchSet, stepped, outcome}
-use Rattle.unit.specs.OneTick.{matchOf, matched, initialise, stepRequest, requestServed, matchServed, served, clocked, tick, afterTicks}
+use Rattle.unit.specs.OneTick.{matchOf, matched, initialise, stepRequest, requestServed, matchServed, served, slotServed, clocked, matches, serviceIn, tick, afterTicks}
+use Rattle.unit.specs.Pending.{asksOf}
 use Rattle.unit.specs.Passing.{TimePasses}
 use Rattle.unit.proofs.Access.{channel-keeps, reg-other, hsrr-range}
 
--- ---- a match and a step leave the registers, the timers and the timer that the record of a group names
+-- ---- a match and a step leave the registers, the timers, the slots and the timer that the record of a group names
 
 pub record Left (s t : State) : Type 0 where
   pub regs : t .regs ≡ s .regs
   pub time : t .timers ≡ s .timers
+  pub slots : t .slots ≡ s .slots
   pub named : (c : ℕ) → (channel t c) .timer ≡ (channel s c) .timer
 
 left-all : (s : State) → Left s s
-left-all s = record { regs = refl; time = refl; named = λ c. refl }
+left-all s = record { regs = refl; time = refl; slots = refl; named = λ c. refl }
 
 left-then : {s t u : State} → Left s t → Left t u → Left s u
-left-then x y = record { regs = y .regs ∙ x .regs; time = y .time ∙ x .time; named = λ c. y .named c ∙ x .named c }
+left-then x y = record { regs = y .regs ∙ x .regs; time = y .time ∙ x .time; slots = y .slots ∙ x .slots; named = λ c. y .named c ∙ x .named c }
 
 -- what is kept of a channel, with the same timer named
 left-channel : (s : State) (c : ℕ) (x : Channel) → x .timer ≡ (channel s c) .timer → Left s (withChannel s c x)
 unfolding withChannel
-left-channel s c x e = record { regs = refl; time = refl; named = λ j. channel-keeps (λ (y : Channel). y .timer) s c x j e }
+left-channel s c x e = record { regs = refl; time = refl; slots = refl; named = λ j. channel-keeps (λ (y : Channel). y .timer) s c x j e }
 
 pub left-each : (n a : ℕ) (f : ℕ → State → State) → ((i : ℕ) (t : State) → Left t (f i t)) → (s : State) → Left s (each n a f s)
 unfolding each
@@ -48,7 +55,7 @@ left-each (suc n) a f h s = left-then (left-each n a f h s) (h (a + n) (each n a
 
 left-pin : (s : State) (c : ℕ) (on : Bool) → Left s (withPin s c on)
 unfolding withPin withPins channel
-left-pin s c on = record { regs = refl; time = refl; named = λ j. refl }
+left-pin s c on = record { regs = refl; time = refl; slots = refl; named = λ j. refl }
 
 left-pins : (s : State) (i : ℕ) → Left s (pinsOut s i)
 unfolding pinsOut pinOut
@@ -61,7 +68,7 @@ left-matchSet s i w t =
 
 left-word : (s : State) (c i v : ℕ) → Left s (withWord s c i v)
 unfolding withWord withWords channel
-left-word s c i v = record { regs = refl; time = refl; named = λ j. refl }
+left-word s c i v = record { regs = refl; time = refl; slots = refl; named = λ j. refl }
 
 left-prepared : (w : Way) (m j : ℕ) (s : State) → Left s (prepared w m j s)
 unfolding prepared withLevel
@@ -84,31 +91,39 @@ left-matched i s = by ((channel s i) .phase)
     by (Armed t) = pick-cases (Left s) (due (timeFor s i) t) (λ a. left-then (left-pins s i) (left-channel (pinsOut s i) i _ refl)) (λ a. left-all s)
     by (Matched t) = left-all s
 
--- ---- a service leaves the timers, and of the registers all but HSRR and CISR
+-- ---- a service leaves the timers and the slots, and of the registers all but HSRR and CISR
 
 record Spared (s t : State) : Type 0 where
   time : t .timers ≡ s .timers
+  slots : t .slots ≡ s .slots
   named : (c : ℕ) → (channel t c) .timer ≡ (channel s c) .timer
   registers : (i : ℕ) → i ≢ 7 → i ≢ 8 → i ≢ 11 → reg t i ≡ reg s i
 
 spared-all : (s : State) → Spared s s
-spared-all s = record { time = refl; named = λ c. refl; registers = λ i a b c. refl }
+spared-all s = record { time = refl; slots = refl; named = λ c. refl; registers = λ i a b c. refl }
 
 spared-then : (s t u : State) → Spared s t → Spared t u → Spared s u
-spared-then s t u x y = record { time = y .time ∙ x .time; named = λ c. y .named c ∙ x .named c; registers = λ i a b c. y .registers i a b c ∙ x .registers i a b c }
+spared-then s t u x y =
+    record {
+      time = y .time ∙ x .time;
+      slots = y .slots ∙ x .slots;
+      named = λ c. y .named c ∙ x .named c;
+      registers = λ i a b c. y .registers i a b c ∙ x .registers i a b c;
+    }
 
 spared-left : (s t : State) → Left s t → Spared s t
 unfolding reg
-spared-left s t x = record { time = x .time; named = x .named; registers = λ i a b c. ap (λ l. getD l i 0) (x .regs) }
+spared-left s t x =
+    record { time = x .time; slots = x .slots; named = x .named; registers = λ i a b c. ap (λ l. getD l i 0) (x .regs) }
 
 spared-status : (s : State) (c : ℕ) → Spared s (withStatus s c)
 unfolding withStatus withReg channel
-spared-status s c = record { time = refl; named = λ j. refl; registers = λ i a b d. reg-other s cisr _ i d }
+spared-status s c = record { time = refl; slots = refl; named = λ j. refl; registers = λ i a b d. reg-other s cisr _ i d }
 
 spared-request : (s : State) (c r : ℕ) → Spared s (withRequest s c r)
 unfolding withRequest withReg channel
 spared-request s c r =
-    record { time = refl; named = λ j. refl; registers = λ i a b d. reg-other s (hsrrOf c) _ i (by i a b) }
+    record { time = refl; slots = refl; named = λ j. refl; registers = λ i a b d. reg-other s (hsrrOf c) _ i (by i a b) }
   where
     by : (i : ℕ) → i ≢ 7 → i ≢ 8 → i ≡ hsrrOf c → ⊥
     by i a b e = let h : (7 ≤ hsrrOf c) × (hsrrOf c ≤ 8) = hsrr-range c in omega arith
@@ -143,8 +158,7 @@ spared-requestServed i s =
 
 spared-served : (i : ℕ) (s : State) → Spared s (served i s)
 unfolding served matchServed
-spared-served i s =
-    pick-cases (Spared s) (enabled s i) (λ a. spared-then s _ _ (spared-requestServed i s) (by ((channel s i) .phase))) (λ a. spared-all s)
+spared-served i s = spared-then s _ _ (spared-requestServed i s) (by ((channel s i) .phase))
   where
     by : (p : Phase) → Spared (requestServed i s) (matchServed p i (requestServed i s))
     by Resting = spared-all _
@@ -152,22 +166,44 @@ spared-served i s =
     by (Armed t) = spared-all _
     by (Matched t) = spared-outcome (requestServed i s) i t _
 
-spared-services : (n a : ℕ) (s : State) → Spared s (each n a served s)
-unfolding each
-spared-services zero a s = spared-all s
-spared-services (suc n) a s = spared-then s _ _ (spared-services n a s) (spared-served (a + n) (each n a served s))
+-- the slot's service, and the timers, slots and matches before it
+record Passed (s t : State) : Type 0 where
+  time : t .timers ≡ onward 1 (s .timers)
+  slot : t .slots .slot ≡ (s .slots .slot + 1) % 7
+  named : (c : ℕ) → (channel t c) .timer ≡ (channel s c) .timer
+  registers : (i : ℕ) → i ≢ 7 → i ≢ 8 → i ≢ 11 → reg t i ≡ reg s i
 
-ticked : (s : State) → Spared (clocked s) (tick s)
-unfolding tick
-ticked s = spared-then (clocked s) _ _ (spared-left (clocked s) _ (left-each 16 0 matched left-matched (clocked s))) (spared-services 16 0 _)
+begun : (s : State) → Passed s (matches s)
+unfolding matches clocked withTimers withSlots ticked channel reg
+begun s =
+    let x : Spared (clocked s) (matches s) = spared-left (clocked s) _ (left-each 16 0 matched left-matched (clocked s)) in
+    record { time = x .time; slot = ap (λ (z : Slots). z .slot) (x .slots); named = x .named; registers = x .registers }
+
+passed-served : (s t : State) (c : ℕ) (u : Slots) → u .slot ≡ t .slots .slot → Passed s t → Passed s (served c (withSlots t u))
+unfolding withSlots channel reg
+passed-served s t c u e x =
+    let y : Spared (withSlots t u) (served c (withSlots t u)) = spared-served c (withSlots t u) in
+    record {
+      time = y .time ∙ x .time;
+      slot = ap (λ (z : Slots). z .slot) (y .slots) ∙ e ∙ x .slot;
+      named = λ j. y .named j ∙ x .named j;
+      registers = λ i a b d. y .registers i a b d ∙ x .registers i a b d;
+    }
+
+passed : (s : State) → Passed s (tick s)
+unfolding tick slotServed serviceIn
+passed s = by (serviceIn s) refl
+  where
+    by : (v : Service) → serviceIn s ≡ v → Passed s (slotServed v (matches s))
+    by (Of c u) e = passed-served s (matches s) c u (one-service .turns ((matches s) .slots) u (asksOf (matches s)) c e .slot) (begun s)
+    by Nobody e = begun s
 
 -- the time of the group of c after the next tick
 abbrev pub timeNext : State → ℕ → ℕ
 timeNext s c = timeBy ((channel s c) .timer) (onward 1 (s .timers))
 
 pub tick-timers : (s : State) → (tick s) .timers ≡ onward 1 (s .timers)
-unfolding clocked withTimers
-tick-timers s = (ticked s) .time
+tick-timers s = (passed s) .time
 
 -- ---- in numbers
 
@@ -198,8 +234,12 @@ eighths s n =
     let e : (afterTicks n s) .timers .tcr2 + ((afterTicks n s) .timers .tcr1 % 8 + 0) / 8 ≡ (afterTicks n s) .timers .tcr2 = omega arith in
     ap (λ k. k % 65536) (sym e) ∙ ap (λ (t : Timers). t .tcr2) (ticks-timers s n)
 
+slots-many : (s : State) (n : ℕ) → (afterTicks n s) .slots .slot % 7 ≡ (s .slots .slot + n) % 7
+unfolding afterTicks
+slots-many s zero = omega arith
+slots-many s (suc n) = omega (arith, (passed (afterTicks n s)) .slot, slots-many s n)
+
 pub time-passes : TimePasses
-unfolding clocked withTimers reg channel
 time-passes =
     record {
       one = first;
@@ -207,6 +247,8 @@ time-passes =
       rises = λ s e. second s ∙ omega (arith, first s);
       stands = λ s n. second s ∙ omega (arith, first s);
       eighths = eighths;
-      registers = λ s. (ticked s) .registers;
-      named = λ s. (ticked s) .named;
+      slot = λ s. (passed s) .slot;
+      slots = slots-many;
+      registers = λ s. (passed s) .registers;
+      named = λ s. (passed s) .named;
     }

@@ -20,7 +20,7 @@ use Rattle.unit.specs.declared.State.{State}
 use Rattle.unit.specs.declared.Answer.the-variants.{Taken, Refused}
 use Rattle.unit.specs.declared.Answer.{Answer}
 use Rattle.unit.specs.TheUnit.{all, cfsrOf, hsrrOf, function, request, channel, word, channelControl, pinControl, target, modCount, nextRate, top, last, cntl0, cntl1, size, stepping, isBound}
-use Rattle.unit.specs.Gate.{isFree, isStepper, isTimed, mayInitialise, otherwiseZero, spanGood, isReady, groupReady, showsPattern, patternGood, rampGood, targetGood, requested, Asked, Yes, No, askInitialise, askStep}
+use Rattle.unit.specs.Gate.{isFree, isStepper, isTimed, mayInitialise, otherwiseZero, spanGood, isReady, groupReady, showsPattern, patternGood, rampGood, quickGood, targetGood, requested, Asked, Yes, No, askInitialise, askStep}
 use Rattle.unit.specs.Takes.{Free, Stepper, MayInitialise, Member, MayStep, MayRepeat}
 use Rattle.unit.proofs.Tests.{and-both, not-yes, all-yes, or-left, or-right, or-none}
 
@@ -172,16 +172,17 @@ module _ (c : ℕ) (s : State) (words : (k : ℕ) → getD (s .words) k 0 ≤ 0x
       eq-eqb _ _ (words-equal 16 (word s j 0) (rotatedRight (word s j 1) m) (omega (arith, small j 0)) (right-fits (word s j 1) m (omega (arith, small j 1)) (omega arith))
       (λ i l. x .pattern i l ∙ sym (right-bit (word s j 1) m i (omega (arith, small j 1)) (omega arith) l)))
 
-  pub step-may : spanGood s c ≡ true → groupReady s c ≡ true → patternGood s c ≡ true → rampGood (cntl0 s c) (cntl1 s c) (top s c) ≡ true → targetGood s c (target s c) ≡ true → MayStep c s
-  unfolding spanGood groupReady patternGood rampGood targetGood period cntl0 cntl1 top last target nextRate size
-  step-may q5 q6 q7 q8 q9 =
+  pub step-may : spanGood s c ≡ true → groupReady s c ≡ true → patternGood s c ≡ true → rampGood (cntl0 s c) (cntl1 s c) (top s c) ≡ true
+      → quickGood (cntl0 s c) (cntl1 s c) (top s c) ≡ true → targetGood s c (target s c) ≡ true → MayStep c s
+  unfolding spanGood groupReady patternGood rampGood quickGood targetGood period cntl0 cntl1 top last target nextRate size
+  step-may q5 q6 q7 q8 q14 q9 =
       let a5 : (otherwiseZero (word s c 5) && (leb 1 (field 4 (word s c 5) 8) && leb (field 4 (word s c 5) 8) 14)) ≡ true = and-left (otherwiseZero (word s c 5) && (leb 1 (field 4 (word s c 5) 8) && leb (field 4 (word s c 5) 8) 14)) _ q5 in
       let b5 : (leb 1 (field 4 (word s c 5) 8) && leb (field 4 (word s c 5) 8) 14) ≡ true = and-right (otherwiseZero (word s c 5)) _ a5 in
       let c5 : (ltb c (field 4 (word s c 5) 0) && leb (field 4 (word s c 5) 0) (c + 7)) ≡ true = and-right (otherwiseZero (word s c 5) && (leb 1 (field 4 (word s c 5) 8) && leb (field 4 (word s c 5) 8) 14)) _ q5 in
       let a7 : (otherwiseZero (word s c 4) && eqb (field 4 (word s c 4) 0) 1) ≡ true = and-left (otherwiseZero (word s c 4) && eqb (field 4 (word s c 4) 0) 1) _ q7 in
       let n : ℕ = field 4 (word s c 5) 8 in
       let l : field 4 (word s c 5) 8 ≤ 14 = leb-true (field 4 (word s c 5) 8) 14 (and-right (leb 1 (field 4 (word s c 5) 8)) _ b5) in
-      let p8 : 1 ≤ word s (suc c) 3 - word s (suc c) 2 * (1 + field 4 (word s c 5) 8) = leb-true 1 _ (and-left (leb 1 (word s (suc c) 3 - word s (suc c) 2 * (1 + field 4 (word s c 5) 8))) _ q8) in
+      let p14 : 128 ≤ word s (suc c) 3 - word s (suc c) 2 * (1 + field 4 (word s c 5) 8) = leb-true 128 _ q14 in
       let r8 : word s (suc c) 3 - word s (suc c) 2 * (1 + 1) ≤ 0x7fff = leb-true _ 0x7fff (and-right (leb 1 (word s (suc c) 3 - word s (suc c) 2 * (1 + field 4 (word s c 5) 8))) _ q8) in
       let p9 : word s c 3 ≤ 0xffff - field 4 (word s c 5) 8 = leb-true _ _ q9 in
       record {
@@ -206,7 +207,8 @@ module _ (c : ℕ) (s : State) (words : (k : ℕ) → getD (s .words) k 0 ≤ 0x
       Rest : Asked
       Rest =
           ask (isFree s c) (No 2) (ask (isStepper s c) (No 3) (ask (spanGood s c) (No 5) (ask (groupReady s c) (No 6) (ask (patternGood s c) (No 7)
-          (ask (rampGood (cntl0 s c) (cntl1 s c) (top s c)) (No 8) (ask (targetGood s c (target s c)) (No 9) (Yes (requested s c 3))))))))
+          (ask (rampGood (cntl0 s c) (cntl1 s c) (top s c)) (No 8) (ask (quickGood (cntl0 s c) (cntl1 s c) (top s c)) (No 14)
+          (ask (targetGood s c (target s c)) (No 9) (Yes (requested s c 3)))))))))
 
       rest : isYes Rest ≡ true → MayStep c s
       rest e2 =
@@ -215,8 +217,10 @@ module _ (c : ℕ) (s : State) (words : (k : ℕ) → getD (s .words) k 0 ≤ 0x
           let e6 = ask-rest (spanGood s c) 5 _ e5 in
           let e7 = ask-rest (groupReady s c) 6 _ e6 in
           let e8 = ask-rest (patternGood s c) 7 _ e7 in
-          let e9 = ask-rest (rampGood (cntl0 s c) (cntl1 s c) (top s c)) 8 _ e8 in
-          step-may (ask-first (spanGood s c) 5 _ e5) (ask-first (groupReady s c) 6 _ e6) (ask-first (patternGood s c) 7 _ e7) (ask-first (rampGood (cntl0 s c) (cntl1 s c) (top s c)) 8 _ e8) (ask-first (targetGood s c (target s c)) 9 _ e9)
+          let e14 = ask-rest (rampGood (cntl0 s c) (cntl1 s c) (top s c)) 8 _ e8 in
+          let e9 = ask-rest (quickGood (cntl0 s c) (cntl1 s c) (top s c)) 14 _ e14 in
+          step-may (ask-first (spanGood s c) 5 _ e5) (ask-first (groupReady s c) 6 _ e6) (ask-first (patternGood s c) 7 _ e7) (ask-first (rampGood (cntl0 s c) (cntl1 s c) (top s c)) 8 _ e8)
+          (ask-first (quickGood (cntl0 s c) (cntl1 s c) (top s c)) 14 _ e14) (ask-first (targetGood s c (target s c)) 9 _ e9)
 
       by : (b : Bool) → b ≡ false → isYes (pick (b && eqb (request s c) 0) (ask (isStepper s c) (No 3) (Yes (requested s c 3))) Rest) ≡ true → MayStep c s
       by true z e = absurd (not-both refl z)
@@ -243,6 +247,10 @@ module _ (c : ℕ) (s : State) (words : (k : ℕ) → getD (s .words) k 0 ≤ 0x
         and-both (le-leb 1 (word s (suc c) 3 - word s (suc c) 2 * (1 + field 4 (word s c 5) 8)) (omega (arith, x .fastest)))
         (le-leb (word s (suc c) 3 - word s (suc c) 2 * (1 + 1)) 0x7fff (omega (arith, x .slowest)))
 
+    is-quick : quickGood (cntl0 s c) (cntl1 s c) (top s c) ≡ true
+    unfolding quickGood period cntl0 cntl1 top
+    is-quick = le-leb 128 (word s (suc c) 3 - word s (suc c) 2 * (1 + field 4 (word s c 5) 8)) (omega (arith, x .fastest))
+
     is-target : targetGood s c (target s c) ≡ true
     unfolding targetGood target top
     is-target = le-leb (word s c 3) (0xffff - field 4 (word s c 5) 8) (omega (arith, x .target))
@@ -252,7 +260,7 @@ module _ (c : ℕ) (s : State) (words : (k : ℕ) → getD (s .words) k 0 ≤ 0x
 
     pub is-step : askStep s c ≡ Yes (requested s c 3)
     unfolding askStep ask
-    is-step = rw (is-still c s (own-member .free .unbound), is-free c s (own-member .free), is-stepper c s (own-member .stepper), is-span, is-group, is-pattern, is-ramp, is-target) refl
+    is-step = rw (is-still c s (own-member .free .unbound), is-free c s (own-member .free), is-stepper c s (own-member .stepper), is-span, is-group, is-pattern, is-ramp, is-quick, is-target) refl
 
 pub is-repeat : (c : ℕ) (s : State) → MayRepeat c s → askStep s c ≡ Yes (requested s c 3)
 unfolding askStep ask request hsrrOf

@@ -295,7 +295,8 @@ step-numbers c s g =
       six = λ a b d e. rw (g, a, b, d, e) refl;
       seven = λ a b d e h. rw (g, a, b, d, e, h) refl;
       eight = λ a b d e h k. rw (g, a, b, d, e, h, k) refl;
-      nine = λ a b d e h k l. rw (g, a, b, d, e, h, k, l) refl;
+      fourteen = λ a b d e h k l. rw (g, a, b, d, e, h, k, l) refl;
+      nine = λ a b d e h k l m. rw (g, a, b, d, e, h, k, l, m) refl;
     }
 
 not-alike : (c j : ℕ) (s : State) → c ≤ j → j ≤ field 4 (word s c 5) 0 → (channel s j) .kind ≢ (channel s c) .kind → groupReady s c ≡ false

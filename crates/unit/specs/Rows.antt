@@ -1,5 +1,5 @@
 -- Short runs of the definitions from reset, each with what it must show: a move right and left, tick by tick, one by TCR2, each number of
--- the gate, and each priority. The figures of the two moves come from a model written apart from the definitions.
+-- the gate, each priority, and whom the slots go to. The figures of the two moves come from a model written apart from the definitions.
 use Prim.Native.Nat.{ℕ}
 use mathlib.Core.Bool.{true, false}
 use mathlib.Core.List.{List, [], _∷_, _++_}
@@ -8,30 +8,32 @@ use lib.ListN.{replicate}
 use Rattle.motor.specs.declared.Way.the-variants.{Right}
 use Rattle.motor.specs.declared.Phase.the-variants.{Armed, Matched}
 use Rattle.unit.specs.declared.State.{State}
-use Rattle.unit.specs.TheUnit.{resetState, cisr, withTimers, withPins, reg, withRequest, channel, withPhase, word, withWord, position, target}
+use Rattle.unit.specs.TheUnit.{resetState, cisr, withReg, withTimers, withPins, reg, withRequest, channel, withLevel, withPhase, word, withWord, position, target}
 use Rattle.unit.specs.OneTick.{matched, tick, afterTicks}
 use Rattle.unit.specs.Quiet.{quietBelow}
-use Rattle.unit.specs.Gate.{advanceGood, gate}
+use Rattle.unit.specs.Gate.{advanceGood, requested, gate}
 use Rattle.unit.specs.Calls.{pinWords, Call, Write, Advance, writeOf, run}
 use Rattle.unit.specs.Answers.{verdictNumber}
 
--- channels 4 and 5 initialised with these CHANNEL_CONTROL and the patterns $8421 and $1234, P(1) = 6, N = 3, and the motor at rest
-unfoldable pub readyBy : ℕ → ℕ → ℕ → ℕ → List Call
-readyBy first second here there =
+-- channels 4 and 5 initialised with these CHANNEL_CONTROL and the patterns $8421 and $1234, N = 3, STEP_CNTL0 1 and this STEP_CNTL1, and
+-- the motor at rest: P(1) is STEP_CNTL1 - 2
+unfoldable pub readyBy : ℕ → ℕ → ℕ → ℕ → ℕ → List Call
+readyBy first second ramp here there =
     Write 0xe10 0x00dd ∷ Write 0xe1e 0x0500 ∷ Write 0xf42 0x8421 ∷ Write 0xf40 first ∷ Write 0xf52 0x1234 ∷ Write 0xf50 second
-    ∷ Write 0xe1a 0x0a00 ∷ Advance 1 (0 ∷ []) ∷ Write 0xe20 0
-    ∷ Write 0xf44 here ∷ Write 0xf46 there ∷ Write 0xf48 0x0001 ∷ Write 0xf4a 0x0305 ∷ Write 0xf54 1 ∷ Write 0xf56 8 ∷ []
+    ∷ Write 0xe1a 0x0a00 ∷ Advance 2 (0 ∷ 0 ∷ []) ∷ Write 0xe20 0
+    ∷ Write 0xf44 here ∷ Write 0xf46 there ∷ Write 0xf48 0x0001 ∷ Write 0xf4a 0x0305 ∷ Write 0xf54 1 ∷ Write 0xf56 ramp ∷ []
 
 -- by TCR1
-unfoldable pub ready : ℕ → ℕ → List Call
-ready here there = readyBy 0x0081 0x0082 here there
+unfoldable pub ready : ℕ → ℕ → ℕ → List Call
+ready ramp here there = readyBy 0x0081 0x0082 ramp here there
 
+-- set going with P(1) = 6, P(3) = 4: shorter than the gate takes, so by what a taken request does
 unfoldable pub goes : ℕ → ℕ → State
-goes here there = run resetState (ready here there ++ (Write 0xe1a 0x0300 ∷ []))
+goes here there = requested (run resetState (ready 8 here there)) 4 3
 
 -- by TCR2, with P = 2 counts at every rate
 unfoldable pub winds : ℕ → ℕ → State
-winds here there = run resetState (readyBy 0x00e1 0x00e2 here there ++ (Write 0xf54 0 ∷ Write 0xf56 2 ∷ Write 0xe1a 0x0300 ∷ []))
+winds here there = requested (run resetState (readyBy 0x00e1 0x00e2 8 here there ++ (Write 0xf54 0 ∷ Write 0xf56 2 ∷ []))) 4 3
 
 -- the pin word, position, word 4, the two CHANNEL_CONTROL words and CISR
 unfoldable pub shows : State → List ℕ
@@ -39,15 +41,25 @@ shows s = s .pins ∷ position s 4 ∷ word s 4 4 ∷ word s 4 0 ∷ word s 5 0 
 
 -- after these writes to a motor at rest, the number of a write, 0 for taken
 unfoldable pub refuses : List Call → ℕ → ℕ → ℕ
-refuses xs a v = verdictNumber (gate (run resetState (ready 0 3 ++ xs)) a v)
+refuses xs a v = verdictNumber (gate (run resetState (ready 132 0 3 ++ xs)) a v)
 
 -- the number of a step request of channels initialised with these CHANNEL_CONTROL
 unfoldable pub kinds : ℕ → ℕ → ℕ
-kinds first second = verdictNumber (gate (run resetState (readyBy first second 0 3)) 0xe1a 0x0300)
+kinds first second = verdictNumber (gate (run resetState (readyBy first second 132 0 3)) 0xe1a 0x0300)
 
 -- how far the first tick moves the motor with this word in CPR1, in which bits 9 and 8 are its priority
 unfoldable pub firstStep : ℕ → ℕ
-firstStep cpr = position (afterTicks 1 (run resetState (ready 0 3 ++ (Write 0xe1e cpr ∷ Write 0xe1a 0x0300 ∷ [])))) 4
+firstStep cpr = position (afterTicks 1 (run resetState (ready 132 0 3 ++ (Write 0xe1e cpr ∷ Write 0xe1a 0x0300 ∷ [])))) 4
+
+-- what is pending in HSRR1 so many ticks after a word has asked channels 4 and 5 to be initialised, with this word in CPR1
+unfoldable pub waiting : ℕ → ℕ → ℕ
+waiting cpr n =
+    reg (afterTicks n (run resetState (Write 0xe10 0x00dd ∷ Write 0xe1e cpr ∷ Write 0xf40 0x0082 ∷ Write 0xf50 0x0082 ∷ Write 0xe1a 0x0a00 ∷ []))) 8
+
+-- groups 4 to 5 and 6 to 7 at low, both at their targets, with matches set for the next tick that take pins 4 and 6 high
+unfoldable pub pair : State
+pair =
+    withPhase (withPhase (withLevel (withLevel (withWord (withWord (withReg resetState 10 0x1100) 4 5 0x0105) 6 5 0x0107) 4 true) 6 true) 4 Right (Armed 1)) 6 Right (Armed 1)
 
 pub record Rows : Type 0 where
   -- 0 to 4: steps in ticks 1, 7, 12 and 18, pins one period later, arrival in tick 24
@@ -64,14 +76,14 @@ pub record Rows : Type 0 where
       × (shows (afterTicks 12 (goes 7 3)) ≡ 0x0 ∷ 4 ∷ 3329 ∷ 0x210c ∷ 0x91a0 ∷ 0x0 ∷ [])
       × (shows (afterTicks 23 (goes 7 3)) ≡ 0x20 ∷ 3 ∷ 3073 ∷ 0x4218 ∷ 0x2341 ∷ 0x0 ∷ [])
       × (shows (afterTicks 24 (goes 7 3)) ≡ 0x0 ∷ 3 ∷ 3073 ∷ 0x4218 ∷ 0x2341 ∷ 0x10 ∷ [])
-  -- 0 to 4 by TCR2, set going in tick 1 since reset: served in tick 2 at count 0; TCR2 comes to 2 in tick 16, and in tick 64 to 8
+  -- 0 to 4 by TCR2, set going in tick 2 since reset: served in tick 3 at count 0; TCR2 comes to 2 in tick 16, and in tick 64 to 8
   pub row-slow : (shows (afterTicks 1 (winds 0 4)) ≡ 0x10 ∷ 1 ∷ 258 ∷ 0xc210 ∷ 0x91a ∷ 0x0 ∷ [])
-      × (shows (afterTicks 14 (winds 0 4)) ≡ 0x10 ∷ 1 ∷ 258 ∷ 0xc210 ∷ 0x91a ∷ 0x0 ∷ [])
-      × (shows (afterTicks 15 (winds 0 4)) ≡ 0x10 ∷ 2 ∷ 513 ∷ 0x6108 ∷ 0x48d ∷ 0x0 ∷ [])
-      × (shows (afterTicks 62 (winds 0 4)) ≡ 0x20 ∷ 4 ∷ 1025 ∷ 0x1842 ∷ 0x4123 ∷ 0x0 ∷ [])
-      × (shows (afterTicks 63 (winds 0 4)) ≡ 0x0 ∷ 4 ∷ 1025 ∷ 0x1842 ∷ 0x4123 ∷ 0x10 ∷ [])
+      × (shows (afterTicks 13 (winds 0 4)) ≡ 0x10 ∷ 1 ∷ 258 ∷ 0xc210 ∷ 0x91a ∷ 0x0 ∷ [])
+      × (shows (afterTicks 14 (winds 0 4)) ≡ 0x10 ∷ 2 ∷ 513 ∷ 0x6108 ∷ 0x48d ∷ 0x0 ∷ [])
+      × (shows (afterTicks 61 (winds 0 4)) ≡ 0x20 ∷ 4 ∷ 1025 ∷ 0x1842 ∷ 0x4123 ∷ 0x0 ∷ [])
+      × (shows (afterTicks 62 (winds 0 4)) ≡ 0x0 ∷ 4 ∷ 1025 ∷ 0x1842 ∷ 0x4123 ∷ 0x10 ∷ [])
   -- how far an advance may go at once: to the match, which is 6 counts of TCR1 or 2 of TCR2 after the first step
-  pub row-quiet : (quietBelow 16 (afterTicks 1 (goes 0 4)) ≡ 5) × (quietBelow 16 (afterTicks 1 (winds 0 4)) ≡ 13)
+  pub row-quiet : (quietBelow 16 (afterTicks 1 (goes 0 4)) ≡ 5) × (quietBelow 16 (afterTicks 1 (winds 0 4)) ≡ 12)
   -- both channels by one timer, and one by each
   pub row-kinds : (kinds 0x0081 0x0082 ≡ 0) × (kinds 0x00e1 0x00e2 ≡ 0) × (kinds 0x0081 0x00e2 ≡ 6) × (kinds 0x00e1 0x0082 ≡ 6)
   -- the pin word of each tick is its own
@@ -80,7 +92,7 @@ pub record Rows : Type 0 where
   pub row-beside : ((afterTicks 12 (withPins (goes 0 4) 0xffdf)) .pins ≡ 0xffcf)
       × (word (afterTicks 12 (withWord (goes 0 4) 6 0 0x1234)) 6 0 ≡ 0x1234) × (word (afterTicks 12 (withWord (goes 0 4) 3 0 0x1234)) 3 0 ≡ 0x1234)
   -- a step request that no write has stored, of a group at rest: the test follows (N14)
-  pub row-stored : shows (tick (withRequest (run resetState (ready 0 4)) 4 3)) ≡ 0x10 ∷ 1 ∷ 258 ∷ 0xc210 ∷ 0x91a ∷ 0x0 ∷ []
+  pub row-stored : shows (tick (withRequest (run resetState (ready 8 0 4)) 4 3)) ≡ 0x10 ∷ 1 ∷ 258 ∷ 0xc210 ∷ 0x91a ∷ 0x0 ∷ []
   -- a match beyond the wrap of TCR1 is not due before it
   pub row-wrap : ((channel (matched 4 (withTimers (withPhase resetState 4 Right (Armed 3)) record { tcr1 = 0xfffe; tcr2 = 0 })) 4) .phase ≡ Armed 3)
       × ((channel (matched 4 (withTimers (withPhase resetState 4 Right (Armed 3)) record { tcr1 = 3; tcr2 = 0 })) 4) .phase ≡ Matched 3)
@@ -107,8 +119,11 @@ pub record Rows : Type 0 where
   pub row-question-7 : (refuses (Write 0xf48 0x0002 ∷ []) 0xe1a 0x0300 ≡ 7) × (refuses (Write 0xf48 0x0011 ∷ []) 0xe1a 0x0300 ≡ 7)
       × (refuses (Write 0xf48 0x0101 ∷ []) 0xe1a 0x0300 ≡ 7) × (refuses (Write 0xf52 0x2234 ∷ []) 0xe1a 0x0300 ≡ 7)
   -- question 8: the shortest and the longest period
-  pub row-question-8 : (refuses (Write 0xf56 5 ∷ []) 0xe1a 0x0300 ≡ 0) × (refuses (Write 0xf56 4 ∷ []) 0xe1a 0x0300 ≡ 8)
+  pub row-question-8 : (refuses (Write 0xf56 5 ∷ []) 0xe1a 0x0300 ≡ 14) × (refuses (Write 0xf56 4 ∷ []) 0xe1a 0x0300 ≡ 8)
       × (refuses (Write 0xf54 0 ∷ Write 0xf56 0x7fff ∷ []) 0xe1a 0x0300 ≡ 0) × (refuses (Write 0xf54 0 ∷ Write 0xf56 0x8000 ∷ []) 0xe1a 0x0300 ≡ 8)
+  -- 14: P(3) of 128 and of 127; it comes before question 9
+  pub row-14 : (refuses (Write 0xf56 132 ∷ []) 0xe1a 0x0300 ≡ 0) × (refuses (Write 0xf56 131 ∷ []) 0xe1a 0x0300 ≡ 14)
+      × (refuses (Write 0xf56 131 ∷ Write 0xf46 0xffff ∷ []) 0xe1a 0x0300 ≡ 14) × (refuses (Write 0xf56 132 ∷ Write 0xf46 0xffff ∷ []) 0xe1a 0x0300 ≡ 9)
   -- question 9: the target at most $FFFF - N, at the request and while bound
   pub row-question-9 : (refuses (Write 0xf46 0xfffc ∷ []) 0xe1a 0x0300 ≡ 0) × (refuses (Write 0xf46 0xfffd ∷ []) 0xe1a 0x0300 ≡ 9)
       × (refuses (Write 0xe1a 0x0300 ∷ []) 0xf46 0xfffd ≡ 9) × (refuses [] 0xf46 0xfffd ≡ 0)
@@ -118,8 +133,12 @@ pub record Rows : Type 0 where
   pub row-functions : (refuses (Write 0xe1a 0x0300 ∷ []) 0xe10 0x0ddd ≡ 0) × (refuses (Write 0xe1a 0x0300 ∷ []) 0xe10 0x00dc ≡ 2)
   -- a request waits while the priority is 00; 01, 10 and 11 have it served
   pub row-priorities : (firstStep 0x0400 ≡ 0) × (firstStep 0x0500 ≡ 1) × (firstStep 0x0600 ≡ 1) × (firstStep 0x0700 ≡ 1)
+  -- one service a tick (paper 02, #107): the lower number first, but the higher level before it in the high slot of tick 1
+  pub row-one-a-tick : (waiting 0x0500 0 ≡ 0x0a00) × (waiting 0x0500 1 ≡ 0x0800) × (waiting 0x0500 2 ≡ 0) × (waiting 0x0d00 1 ≡ 0x0200) × (waiting 0x0d00 2 ≡ 0)
+  -- two matches of one tick both show on the pins at once; their services, here arrivals, come one after the other
+  pub row-pair : ((tick pair) .pins ≡ 0x50) × (reg (tick pair) cisr ≡ 0x10) × ((afterTicks 2 pair) .pins ≡ 0x50) × (reg (afterTicks 2 pair) cisr ≡ 0x50)
   -- in an HSRR word the lowest refused channel gives the number, and the lower ones count as taken: from the top the first would be 4
   pub row-word : (refuses [] 0xe1a 0x0b00 ≡ 2) × (refuses (Write 0xf50 0x0082 ∷ Write 0xe1a 0x0800 ∷ []) 0xe1a 0x0300 ≡ 6) × (refuses [] 0xe1a 0x0000 ≡ 0)
   -- a target taken under way is the one in memory, and a refused write changes nothing
   pub row-writes : (target ((writeOf (goes 0 3) 0xf46 1) .state) 4 ≡ 1) × (word ((writeOf (goes 0 3) 0xf4a 0) .state) 4 5 ≡ 0x0305)
-      × (((writeOf (goes 0 3) 0xf4a 0) .state) .timers .tcr1 ≡ 1)
+      × (((writeOf (goes 0 3) 0xf4a 0) .state) .timers .tcr1 ≡ 2)

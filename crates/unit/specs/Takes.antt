@@ -11,7 +11,7 @@ use Rattle.unit.specs.declared.State.{State}
 use Rattle.unit.specs.TheUnit.{Whole, reg, channel, word, target, top, cntl0, cntl1, stepping, isBound}
 use Rattle.unit.specs.declared.Answer.{Answer}
 use Rattle.unit.specs.declared.Answer.the-variants.{Taken, Refused}
-use Rattle.unit.specs.Gate.{isFree, isStepper, mayInitialise, spanGood, groupReady, patternGood, rampGood, targetGood}
+use Rattle.unit.specs.Gate.{isFree, isStepper, mayInitialise, spanGood, groupReady, patternGood, rampGood, quickGood, targetGood}
 use Rattle.unit.specs.Calls.{advanceOf, writeOf, isTaken}
 use Rattle.unit.specs.Readings.{registerAddress, wordAddress, Listed, Exists}
 
@@ -45,7 +45,7 @@ pub record Member (m : ℕ) (k : Timer) (j : ℕ) (s : State) : Type 0 where
   pub kind : (channel s j) .kind ≡ k
   pub pattern : (i : ℕ) → i < 16 → field 1 (word s j 0) i ≡ field 1 (word s j 1) ((i + m) % 16)
 
--- questions 2 to 9; of word 5 N is bits 11 to 8 and the last channel bits 3 to 0, of word 4 MOD_CNT and the next rate are
+-- questions 2 to 9 with the one of paper 02, #107, after 8; of word 5 N is bits 11 to 8 and the last channel bits 3 to 0, of word 4 MOD_CNT and the next rate are
 pub record MayStep (c : ℕ) (s : State) : Type 0 where
   pub zero5 : (field 4 (word s c 5) 12 ≡ 0) × (field 4 (word s c 5) 4 ≡ 0)
   pub least : 1 ≤ field 4 (word s c 5) 8
@@ -55,8 +55,8 @@ pub record MayStep (c : ℕ) (s : State) : Type 0 where
   pub zero4 : (field 4 (word s c 4) 12 ≡ 0) × (field 4 (word s c 4) 4 ≡ 0)
   pub slow : field 4 (word s c 4) 0 ≡ 1
   pub group : (j : ℕ) → c ≤ j → j ≤ field 4 (word s c 5) 0 → Member (field 4 (word s c 4) 8) ((channel s c) .kind) j s
-  -- P(N) is at least 1, P(1) at most $7FFF
-  pub fastest : word s (suc c) 2 * (1 + field 4 (word s c 5) 8) < word s (suc c) 3
+  -- P(N) is at least 128, P(1) at most $7FFF
+  pub fastest : word s (suc c) 2 * (1 + field 4 (word s c 5) 8) + 128 ≤ word s (suc c) 3
   pub slowest : word s (suc c) 3 ≤ 0x7fff + word s (suc c) 2 * 2
   pub target : word s c 3 + field 4 (word s c 5) 8 ≤ 0xffff
 
@@ -102,8 +102,10 @@ pub record StepNumbers (c : ℕ) (s : State) (answer : Answer) : Type 0 where
   pub seven : isFree s c ≡ true → isStepper s c ≡ true → spanGood s c ≡ true → groupReady s c ≡ true → patternGood s c ≡ false → answer ≡ Refused 7
   pub eight : isFree s c ≡ true → isStepper s c ≡ true → spanGood s c ≡ true → groupReady s c ≡ true → patternGood s c ≡ true
       → rampGood (cntl0 s c) (cntl1 s c) (top s c) ≡ false → answer ≡ Refused 8
+  pub fourteen : isFree s c ≡ true → isStepper s c ≡ true → spanGood s c ≡ true → groupReady s c ≡ true → patternGood s c ≡ true
+      → rampGood (cntl0 s c) (cntl1 s c) (top s c) ≡ true → quickGood (cntl0 s c) (cntl1 s c) (top s c) ≡ false → answer ≡ Refused 14
   pub nine : isFree s c ≡ true → isStepper s c ≡ true → spanGood s c ≡ true → groupReady s c ≡ true → patternGood s c ≡ true
-      → rampGood (cntl0 s c) (cntl1 s c) (top s c) ≡ true → targetGood s c (target s c) ≡ false → answer ≡ Refused 9
+      → rampGood (cntl0 s c) (cntl1 s c) (top s c) ≡ true → quickGood (cntl0 s c) (cntl1 s c) (top s c) ≡ true → targetGood s c (target s c) ≡ false → answer ≡ Refused 9
 
 pub record InitialiseNumbers (c : ℕ) (s : State) (answer : Answer) : Type 0 where
   pub two : isFree s c ≡ false → answer ≡ Refused 2

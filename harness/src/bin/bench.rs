@@ -12,58 +12,91 @@ const CHUNK: u32 = MAX_TICKS;
 const ROUND: Duration = Duration::from_millis(200);
 const ROUNDS: u32 = 3;
 
+/// Motors side by side over all channels.
+#[derive(Clone, Copy)]
+struct Motors {
+    /// Channels of each.
+    size: usize,
+    period: u16,
+    /// By TCR2.
+    slow: bool,
+    /// At high, middle and low level in turn, not all at high.
+    mixed: bool,
+}
+
 struct Case {
     name: &'static str,
     what: &'static str,
-    /// Channels of a motor and its period; none at rest.
-    motors: Option<(usize, u16)>,
-    /// By TCR2.
-    slow: bool,
-    /// Requests and targets in every tick.
+    /// None at rest.
+    motors: Option<Motors>,
+    /// Targets and a request in every tick.
     busy: bool,
 }
 
-const CASES: [Case; 6] = [
+const FOUR: Motors = Motors {
+    size: 4,
+    period: 128,
+    slow: false,
+    mixed: false,
+};
+const EIGHT: Motors = Motors { size: 2, ..FOUR };
+
+const CASES: [Case; 8] = [
     Case {
         name: "rest",
         what: "all at rest",
         motors: None,
-        slow: false,
         busy: false,
     },
     Case {
         name: "four-400",
         what: "4 motors of 4 channels, period 400",
-        motors: Some((4, 400)),
-        slow: false,
+        motors: Some(Motors {
+            period: 400,
+            ..FOUR
+        }),
         busy: false,
     },
     Case {
-        name: "four-20",
-        what: "4 motors of 4 channels, period 20",
-        motors: Some((4, 20)),
-        slow: false,
+        name: "four-128",
+        what: "4 motors of 4 channels, period 128",
+        motors: Some(FOUR),
         busy: false,
     },
     Case {
-        name: "slow-50",
-        what: "4 motors of 4 channels by TCR2, period 50",
-        motors: Some((4, 50)),
-        slow: true,
+        name: "four-mixed",
+        what: "4 motors of 4 channels, period 128, mixed levels",
+        motors: Some(Motors {
+            mixed: true,
+            ..FOUR
+        }),
         busy: false,
     },
     Case {
-        name: "eight-1",
-        what: "8 motors of 2 channels, period 1",
-        motors: Some((2, 1)),
-        slow: false,
+        name: "slow-128",
+        what: "4 motors of 4 channels by TCR2, period 128",
+        motors: Some(Motors { slow: true, ..FOUR }),
+        busy: false,
+    },
+    Case {
+        name: "eight-128",
+        what: "8 motors of 2 channels, period 128",
+        motors: Some(EIGHT),
+        busy: false,
+    },
+    Case {
+        name: "eight-mixed",
+        what: "8 motors of 2 channels, period 128, mixed levels",
+        motors: Some(Motors {
+            mixed: true,
+            ..EIGHT
+        }),
         busy: false,
     },
     Case {
         name: "busy",
-        what: "4 motors, requests and targets in every tick",
-        motors: Some((4, 20)),
-        slow: false,
+        what: "4 motors, a request and targets in every tick",
+        motors: Some(FOUR),
         busy: true,
     },
 ];
@@ -76,46 +109,60 @@ fn word_address(c: usize, w: usize) -> u16 {
     PARAMETERS + 16 * c as u16 + 2 * w as u16
 }
 
-/// Motors side by side over all channels, on their way from the middle.
-fn set_up(unit: &mut dyn Unit, size: usize, period: u16, slow: bool) {
-    let control = if slow { 0x00E1 } else { 0x0081 };
-    for i in 0..4 {
-        put(unit, CFSR0 + 2 * i, 0xDDDD);
+impl Motors {
+    fn primaries(self) -> impl Iterator<Item = usize> {
+        (0..16).step_by(self.size)
     }
-    for c in 0..16 {
-        put(unit, word_address(c, PIN_CONTROL), 0xCCCC);
-        put(unit, word_address(c, CHANNEL_CONTROL), control);
+
+    fn priority(self, c: usize) -> u16 {
+        match c / self.size % 3 {
+            turn if self.mixed => 3 - turn as u16,
+            _ => 3,
+        }
     }
-    for i in 0..2 {
-        put(unit, CPR0 + 2 * i, 0xFFFF);
-        put(unit, HSRR0 + 2 * i, 0xAAAA);
+
+    /// Every channel initialised.
+    fn initialise(self, unit: &mut dyn Unit) {
+        let control = if self.slow { 0x00E1 } else { 0x0081 };
+        let mut levels = [0; 2];
+        for c in 0..16 {
+            put(unit, CFSR0 + 2 * (c as u16 / 4), 0xDDDD);
+            put(unit, word_address(c, PIN_CONTROL), 0xCCCC);
+            put(unit, word_address(c, CHANNEL_CONTROL), control);
+            levels[1 - c / 8] |= self.priority(c) << (2 * (c % 8));
+        }
+        put(unit, CPR0, levels[0]);
+        put(unit, CPR0 + 2, levels[1]);
+        put(unit, HSRR0, 0xAAAA);
+        put(unit, HSRR0 + 2, 0xAAAA);
+        unit.advance(16, &mut [0; 16]).expect("a tick a channel");
     }
-    unit.advance(1, &mut [0]).expect("a tick");
-    for c in (0..16).step_by(size) {
-        let last = (c + size - 1) as u16;
-        put(unit, word_address(c, POSITION), 0x8000);
-        put(unit, word_address(c, MOD_AND_RATE), 1);
-        put(unit, word_address(c, COUNT_AND_LAST), 0x0300 | last);
-        put(unit, word_address(c + 1, STEP_CNTL1), period);
+
+    /// On their way from the middle.
+    fn start(self, unit: &mut dyn Unit) {
+        self.initialise(unit);
+        for c in self.primaries() {
+            let last = (c + self.size - 1) as u16;
+            put(unit, word_address(c, POSITION), 0x8000);
+            put(unit, word_address(c, TARGET), 0xC000);
+            put(unit, word_address(c, MOD_AND_RATE), 1);
+            put(unit, word_address(c, COUNT_AND_LAST), 0x0300 | last);
+            put(unit, word_address(c + 1, STEP_CNTL1), self.period);
+            request(unit, c).expect("a request that is taken");
+        }
     }
-    send(unit, size, 0xC000);
-    request(unit, size);
+
+    /// A target for each motor; how many that were.
+    fn send(self, unit: &mut dyn Unit, target: u16) -> u64 {
+        for c in self.primaries() {
+            put(unit, word_address(c, TARGET), target);
+        }
+        self.primaries().count() as u64
+    }
 }
 
-/// A target for each motor; how many that were.
-fn send(unit: &mut dyn Unit, size: usize, target: u16) -> u64 {
-    for c in (0..16).step_by(size) {
-        put(unit, word_address(c, TARGET), target);
-    }
-    16 / size as u64
-}
-
-/// A step request for each motor, in two writes.
-fn request(unit: &mut dyn Unit, size: usize) -> u64 {
-    let word = (0..8).step_by(size).fold(0, |word, c| word | 3 << (2 * c));
-    put(unit, HSRR0, word);
-    put(unit, HSRR0 + 2, word);
-    2
+fn request(unit: &mut dyn Unit, c: usize) -> Result<(), u8> {
+    unit.write(HSRR0 + 2 * (1 - c as u16 / 8), 3 << (2 * (c % 8)))
 }
 
 /// Targets far enough apart that no motor arrives between two of them.
@@ -130,24 +177,26 @@ fn there_and_back(i: u32) -> u16 {
 impl Case {
     fn begin(&self, unit: &mut dyn Unit) {
         unit.reset();
-        if let Some((size, period)) = self.motors {
-            set_up(unit, size, period, self.slow);
+        if let Some(motors) = self.motors {
+            motors.start(unit);
         }
     }
 
     /// Four chunks, or as many ticks one by one; the calls that it took.
     fn go(&self, unit: &mut dyn Unit, i: u32, list: &mut [u16]) -> u64 {
         let mut calls = 0;
-        if let (true, Some((size, _))) = (self.busy, self.motors) {
+        if let (true, Some(motors)) = (self.busy, self.motors) {
             for tick in 0..CHUNK {
-                calls += send(unit, size, there_and_back(tick));
+                calls += motors.send(unit, there_and_back(tick));
                 unit.advance(1, list).expect("a tick");
-                calls += 1 + request(unit, size);
+                // Refused where a match went before the motor's latest one.
+                let _ = request(unit, motors.size * (tick as usize % 4));
+                calls += 2;
             }
             return calls;
         }
-        if let Some((size, _)) = self.motors {
-            calls += send(unit, size, there_and_back(i));
+        if let Some(motors) = self.motors {
+            calls += motors.send(unit, there_and_back(i));
         }
         for _ in 0..4 {
             unit.advance(CHUNK, list).expect("a chunk");
@@ -209,14 +258,14 @@ fn measure_fill() -> Speed {
 fn table() {
     println!("million ticks, and thousand calls, a second");
     println!(
-        "{:<46}{:>10}{:>10}{:>8}{:>12}{:>12}",
+        "{:<52}{:>10}{:>10}{:>8}{:>12}{:>12}",
         "", "ours", "plain", "ratio", "ours calls", "plain calls"
     );
     for case in &CASES {
         let ours = measure(case, &mut Archive::new());
         let plain = measure(case, &mut Plain::default());
         println!(
-            "{:<46}{:>10.2}{:>10.2}{:>8.2}{:>12.1}{:>12.1}",
+            "{:<52}{:>10.2}{:>10.2}{:>8.2}{:>12.1}{:>12.1}",
             case.what,
             ours.ticks,
             plain.ticks,
@@ -227,7 +276,7 @@ fn table() {
     }
     let fill = measure_fill();
     println!(
-        "{:<46}{:>10}{:>10.1}",
+        "{:<52}{:>10}{:>10.1}",
         "slice.fill of the list, for the rest", "", fill.ticks
     );
 }

@@ -10,15 +10,20 @@ use Rattle.unit.proofs.Passing.{time-passes}
 use Rattle.unit.proofs.Quiet.{quiet-ticks}
 use Rattle.unit.proofs.Computed.{rows}
 use Rattle.history.proofs.Calls.{calls-are}
+use Rattle.slots.proofs.Within.{one-service}
+use Rattle.slots.proofs.Computed as slots
+use Rattle.motor.proofs.Schedule.{schedules}
+use Rattle.history.proofs.Served.{served-within}
 use Rattle.history.proofs.Timers.{timers-count}
 use Rattle.history.proofs.Leaves.{writes-leave}
 use Rattle.history.proofs.Always.{always}
 use Rattle.history.proofs.Term3.{term-3}
 use Rattle.history.proofs.SlowMoves as history
-use Rattle.isolation.proofs.Runs.{isolated}
+use Rattle.isolation.proofs.OneMove.{one-move}
+use Rattle.moves.proofs.Moves.{moves}
+use Rattle.moves.proofs.Trap.{trap}
 use Rattle.trials.proofs.Trials.{trials}
 use Rattle.trials.proofs.History.{met}
-use Rattle.trials.proofs.Frames.{frames, across}
 use Rattle.trials.proofs.Winder.{winds}
 use Rattle.text.proofs.LengthLaws.{decimal-short}
 use Rattle.parse.proofs.LineLaws as parse
@@ -45,7 +50,7 @@ use Rattle.board.proofs.SaveLaws.{saves}
 use Rattle.board.proofs.LoadLaws.{loads}
 use Rattle.board.proofs.RoundTripLaws.{round-trip}
 use Rattle.board.proofs.HistoryLaws.{board-history}
-use Rattle.delivery.specs.Delivery.{EveryCall, EveryTick, EveryHistory, AtTheBench, MotorSheet, Settings, RateCount, TwoFrames}
+use Rattle.delivery.specs.Delivery.{EveryCall, EveryTick, EveryHistory, AtTheBench, MotorSheet, Settings, RateCount, TwoFrames, OneAtATime}
 use Rattle.delivery.proofs.delivered.Statement.{statement}
 use Rattle.delivery.proofs.delivered.Tie as tie
 
@@ -105,7 +110,10 @@ rate-count : RateCount
 rate-count = record { ends = slow-ends; moves = motor.slow-moves; history = history.slow-moves }
 
 two-frames : TwoFrames
-two-frames = record { isolated = isolated; frames = frames; across = across }
+two-frames = record { one-move = one-move; moves = moves; trap = trap }
+
+one-at-a-time : OneAtATime
+one-at-a-time = record { slots = one-service; rows = slots.rows; served = served-within; schedules = schedules }
 
 returns : tie.Need-returns
 returns c =
@@ -119,6 +127,7 @@ returns c =
       rate-count = rate-count;
       two-frames = two-frames;
       two-timers = record { count = timers-count; winds = winds };
+      one-service = one-at-a-time;
     }
 
 pub delivered-spec : {M : Type 1} → statement M

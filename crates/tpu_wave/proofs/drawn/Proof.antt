@@ -20,8 +20,8 @@ part-draw-end c = search needs
 draw-requires : tie.Need-draw-requires
 draw-requires c κs = search needs
 
-add-t12 : tie.Need-add-t12
-add-t12 c = search needs
+add-filled : tie.Need-add-filled
+add-filled c = search needs
 
 same-length : tie.Need-same-length
 same-length c = search needs
@@ -38,6 +38,6 @@ drawn-spec =
     part-draw-start
     part-draw-end
     draw-requires
-    add-t12
+    add-filled
     same-length
     returns)

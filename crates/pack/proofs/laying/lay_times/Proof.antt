@@ -3,14 +3,14 @@ use mathlib.Core.Path.{_≡_, _∙_}
 use Prim.Native.Nat.{_-_, _≤_, _<_}
 use native.Mathlib.Omega.{arith}
 use lib.ListN.{length, take, length-set}
-use Rattle.pack.specs.Packing.{tabulate, packedWord, packed}
-use Rattle.pack.proofs.Tabled.{next, whole}
+use Rattle.pack.specs.Packing.{tabulate, packedWord}
+use Rattle.pack.proofs.Tabled.{next}
 use Rattle.pack.proofs.Parts.{at-times}
 use Rattle.pack.proofs.laying.lay_times.Statement.{statement}
 use Rattle.pack.proofs.laying.lay_times.Tie as tie
 
 abbrev Inv-loop : tie.InvT-loop
-Inv-loop s₀ st i₀ s i = (159 ≤ i) × (i ≤ 175) × (length s ≡ 175) × (take i s ≡ tabulate i (packedWord st))
+Inv-loop s₀ st i₀ s i = (159 ≤ i) × (i ≤ 175) × (length s ≡ 179) × (take i s ≡ tabulate i (packedWord st))
 
 abbrev μ-loop : tie.MeasureT-loop
 μ-loop s₀ st i₀ s i = 175 - i
@@ -45,18 +45,22 @@ loop-less c = omega arith
 loop-again : tie.Need-loop-again Inv-loop μ-loop
 loop-again c =
     let l = c .before .before .before .loop in
-    let h : l .i < length (l .s) = omega arith in
-    (omega arith, omega arith, simp length-set (l .inv .2), next _ (l .s) (l .i) _ h (l .inv .3) (c .time-of .ensures ∙ at-times _ _ (omega arith)))
+    let h : l .i < length (l .s) = omega arith in (
+      omega arith,
+      omega arith,
+      simp length-set (l .inv .2),
+      next _ (l .s) (l .i) _ h (l .inv .3) (c .time-of .ensures ∙ at-times _ _ (omega arith) (omega arith)),
+    )
 
 same-length : tie.Need-same-length Inv-loop μ-loop
 same-length c = search needs
 
 returns : tie.Need-returns Inv-loop μ-loop
-unfolding packed
 returns c =
     let l = c .before .loop in
     let e : l .i ≡ 175 = omega arith in
-    whole _ (l .s) 175 (l .inv .2) (rw (← e) (l .inv .3))
+    let p : take 175 (l .s) ≡ tabulate 175 (packedWord (c .before .before .before .args .t1)) = rw (← e) (l .inv .3) in
+    (l .inv .2, p)
 
 pub lay-times-spec : {M : Type 1} → statement M
 lay-times-spec =

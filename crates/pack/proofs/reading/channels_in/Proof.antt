@@ -9,7 +9,7 @@ use Rattle.pack.proofs.reading.channels_in.Statement.{statement}
 use Rattle.pack.proofs.reading.channels_in.Tie as tie
 
 abbrev Inv-loop : tie.InvT-loop
-Inv-loop s w₀ i₀ w i = (i ≤ 16) × (length s ≡ 175) × (length w ≡ 16) × (take i w ≡ tabulate i (channelIn s))
+Inv-loop s w₀ i₀ w i = (i ≤ 16) × (length s ≡ 179) × (length w ≡ 16) × (take i w ≡ tabulate i (channelIn s))
 
 abbrev μ-loop : tie.MeasureT-loop
 μ-loop s w₀ i₀ w i = 16 - i

@@ -21,10 +21,22 @@ shared-slice-read-t8 c = search needs
 shared-slice-read-t11 : tie.Need-shared-slice-read-t11
 shared-slice-read-t11 c = search needs
 
+shared-slice-read-t13 : tie.Need-shared-slice-read-t13
+shared-slice-read-t13 c = search needs
+
+shared-slice-read-t15 : tie.Need-shared-slice-read-t15
+shared-slice-read-t15 c = search needs
+
+shared-slice-read-t17 : tie.Need-shared-slice-read-t17
+shared-slice-read-t17 c = search needs
+
+shared-slice-read-t19 : tie.Need-shared-slice-read-t19
+shared-slice-read-t19 c = search needs
+
 returns : tie.Need-returns
 unfolding stateIn
 returns c =
-    let b = c .before .before .before in
+    let b = c .before .before .before .before .before .before .before in
     rw (b .channels-in .ensures, b .before .regs-in .ensures, b .before .before .words-in .ensures)
 
 pub state-in-spec : {M : Type 1} → statement M
@@ -37,4 +49,8 @@ state-in-spec =
     shared-slice-read-t6
     shared-slice-read-t8
     shared-slice-read-t11
+    shared-slice-read-t13
+    shared-slice-read-t15
+    shared-slice-read-t17
+    shared-slice-read-t19
     returns)

@@ -24,24 +24,25 @@ returns : tie.Need-returns
 unfolding afterTicks pinWords
 returns c = (omega arith, omega arith, c .tick .ensures, ap (λ t. t .pins ∷ []) (sym (c .tick .ensures)))
 
-onward-requires : tie.Need-onward-requires
-onward-requires c κs = search needs
-
-at-time-requires : tie.Need-at-time-requires
-at-time-requires c κs = search needs
+passed-requires : tie.Need-passed-requires
+passed-requires c κs = search needs
 
 returns-2 : tie.Need-returns-2
 returns-2 c =
-    let start = c .before .before .before .before .before in
+    let start = c .before .before .before in
     let s = start .args .s in
     let room = start .args .room in
-    let q = c .before .before .before .before .quiet-ticks .result in
-    let e = c .before .before .before .before .quiet-ticks .ensures in
+    let q = c .before .before .quiet-ticks .result in
+    let e = c .before .before .quiet-ticks .ensures in
     let fits : Fits w16 (s .timers .tcr1) = search needs in
     let fits2 : Fits w16 (s .timers .tcr2) = search needs in
     let quiet : q ≤ quietBelow 16 s = rw e (min-le-left (quietBelow 16 s) room) in
-    let fit : q ≤ room = rw e (min-le-right (quietBelow 16 s) room) in
-    (omega arith, fit, rw (c .at-time .ensures, c .before .onward .ensures) (sym (quiet-ticks s q (omega (arith, fits)) (omega (arith, fits2)) quiet)), rw (c .at-time .ensures, pins-of) (quiet-pins q s (omega (arith, fits)) (omega (arith, fits2)) quiet))
+    let fit : q ≤ room = rw e (min-le-right (quietBelow 16 s) room) in (
+      omega arith,
+      fit,
+      rw (c .passed .ensures) (sym (quiet-ticks s q (omega (arith, fits)) (omega (arith, fits2)) (omega arith) quiet)),
+      rw (c .passed .ensures, pins-of) (quiet-pins q s (omega (arith, fits)) (omega (arith, fits2)) quiet),
+    )
 
 pub onward-spec : {M : Type 1} → statement M
 onward-spec =
@@ -50,6 +51,5 @@ onward-spec =
     quiet-ticks-requires
     tick-requires
     returns
-    onward-requires
-    at-time-requires
+    passed-requires
     returns-2)
