@@ -20,7 +20,7 @@ extern "C" {
 #endif
 
 /* How many words hold a state. */
-#define TPU_SM_STATE_WORDS 179
+#define TPU_SM_STATE_WORDS 211
 
 /* The same number, as the archive has it. */
 uint32_t tpu_sm_state_words(void);
@@ -47,7 +47,7 @@ uint16_t tpu_sm_interrupt_line(const uint16_t *state, size_t state_words);
 /* ---- answers */
 
 #define TPU_SM_TAKEN 0
-/* the address is odd, or no register and no parameter word is there */
+/* the address is odd, or no register and no parameter word is there, or the write is to a TPU_SM_LATE */
 #define TPU_SM_NO_SUCH_ADDRESS 1
 /* the channel is bound to a motor that runs, or has a request that is not served yet */
 #define TPU_SM_BUSY 2
@@ -89,6 +89,10 @@ uint16_t tpu_sm_interrupt_line(const uint16_t *state, size_t state_words);
 #define TPU_SM_CPR0 0xE1Cu
 #define TPU_SM_CPR1 0xE1Eu
 #define TPU_SM_CISR 0xE20u
+
+/* How late the channel was, read only: the counts of its group's timer from the match time to the latest match service,
+   modulo 65,536; 0 after reset. */
+#define TPU_SM_LATE(channel) ((uint16_t)(0xE40u + 2u * (unsigned)(channel)))
 
 /* The register that has a channel's function, request or priority. */
 #define TPU_SM_CFSR(channel) ((uint16_t)(TPU_SM_CFSR3 - 2u * ((unsigned)(channel) / 4u)))

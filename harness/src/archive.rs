@@ -85,7 +85,9 @@ impl Archive {
     }
 
     pub fn state(&self) -> &[u16; WORDS] {
-        self.words[GUARD..].first_chunk().expect("179 words")
+        self.words[GUARD..]
+            .first_chunk()
+            .expect("all words of a state")
     }
 
     fn state_mut(&mut self) -> &mut [u16] {

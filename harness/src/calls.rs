@@ -109,6 +109,10 @@ fn function_address(c: usize) -> u16 {
     CFSR0 + 2 * (3 - c as u16 / 4)
 }
 
+fn late_address(c: usize) -> u16 {
+    LATE + 2 * c as u16
+}
+
 /// The word of a channel in HSRR or CPR.
 fn half_address(first: u16, c: usize) -> u16 {
     first + 2 * (1 - c as u16 / 8)
@@ -203,7 +207,10 @@ impl Maker {
             600..=639 => self.request(motor.first, STEP),
             640..=654 => self.prepare(motor),
             655..=684 => self.change(motor),
-            685..=719 => self.pass_time(),
+            685..=696 => self.pass_time(),
+            697..=704 => self.crowd_match(),
+            705..=709 => self.leave_out_first(motor),
+            710..=719 => self.numbers(motor),
             720..=759 => self.priorities(),
             760..=787 => self.short_pause(motor),
             788..=792 => self.long_pause(motor),
@@ -690,6 +697,77 @@ impl Maker {
         }
     }
 
+    /// Many initialises right before a match, which then has to wait: if there
+    /// is one, before that of a motor by TCR2.
+    fn crowd_match(&mut self) {
+        let near = |motor: &Motor| {
+            let ticks = self.before_match(*motor, 0)?;
+            (1..20_000).contains(&ticks).then_some((*motor, ticks))
+        };
+        let (slow, quick): (Vec<_>, Vec<_>) = self
+            .motors
+            .iter()
+            .filter_map(near)
+            .partition(|(motor, _)| self.unit.view(motor.first).by_tcr2);
+        let Some(&(motor, ticks)) = slow.first().or(quick.first()) else {
+            return self.pass_time();
+        };
+        let free = self.fit_for_initialise(self.unit.priority(motor.first));
+        self.advance_far(ticks);
+        for n in [5, 5, 40] {
+            for &c in &free {
+                self.write(half_address(HSRR0, c), in_half(c, INITIALISE));
+            }
+            self.advance(n);
+            self.read(late_address(motor.first));
+        }
+    }
+
+    /// The channels with function 13 that nothing binds, made ready for an
+    /// initialise at this level or the high one.
+    fn fit_for_initialise(&mut self, level: u16) -> Vec<usize> {
+        let mut free = Vec::new();
+        let mut levels = [self.now(CPR0 + 2), self.now(CPR0)];
+        for c in 0..16 {
+            let function = self.now(function_address(c)) >> (4 * (c % 4)) & 15;
+            let asked = self.unit.is_bound(c) || self.unit.request(c) != 0;
+            if function == STEPPER && !asked {
+                let pattern = self.random.pick(&BY_ITSELF);
+                self.set(c, PIN_CONTROL, pattern);
+                self.set(c, CHANNEL_CONTROL, pattern);
+                let level = self.random.pick(&[level, 3]);
+                levels[c / 8] = levels[c / 8] & !in_half(c, 3) | in_half(c, level);
+                free.push(c);
+            }
+        }
+        self.write(CPR0 + 2, levels[0]);
+        self.write(CPR0, levels[1]);
+        free
+    }
+
+    /// One step of all channels but the first, served late; then a move of all
+    /// of them, with the late primary as a secondary.
+    fn leave_out_first(&mut self, motor: Motor) {
+        let first = motor.first + 1;
+        if first == motor.last || self.is_moving(motor) {
+            return self.start(motor);
+        }
+        self.prepare(Motor { first, ..motor });
+        let place = self.place() / 2;
+        self.set(first, POSITION, place);
+        self.set(first, TARGET, place + 1);
+        self.request(first, STEP);
+        self.advance(4);
+        self.set_priority(first, OFF);
+        let n = self.random.between(130, 2000);
+        self.advance(n);
+        self.set_priority(first, 1);
+        self.advance(20);
+        self.read(late_address(first));
+        self.prepare(motor);
+        self.request(motor.first, STEP);
+    }
+
     /// A primary switched off for some steps' time, then on again.
     fn short_pause(&mut self, motor: Motor) {
         if !self.is_moving(motor) {
@@ -706,6 +784,7 @@ impl Maker {
         self.write(half_address(CPR0, motor.first), back);
         let n = self.random.between(1, 20);
         self.advance(n);
+        self.read(late_address(motor.first));
     }
 
     /// Off for so long that the clock has gone half round or more.
@@ -725,6 +804,7 @@ impl Maker {
         for n in [1, 1, 3, 30] {
             self.advance(n);
         }
+        self.read(late_address(motor.first));
         if self.random.one_in(2) {
             self.advance_far(0x8000);
         }
@@ -733,6 +813,18 @@ impl Maker {
     /// If a match is set: ticks until just before the one in which its service
     /// would set the next match exactly half a round in the past.
     fn half_round(&self, motor: Motor) -> Option<u32> {
+        let rate = self.unit.word(motor.first, MOD_AND_RATE) & 15;
+        let per_rate = self.unit.word(motor.first + 1, STEP_CNTL0);
+        let period = self
+            .unit
+            .word(motor.first + 1, STEP_CNTL1)
+            .wrapping_sub(per_rate.wrapping_mul(1 + rate));
+        self.before_match(motor, u32::from(period) + 0x8000)
+    }
+
+    /// If a match is set: ticks until just before the one that is so many
+    /// counts after it.
+    fn before_match(&self, motor: Motor, counts: u32) -> Option<u32> {
         let Phase::Armed(time) = self.unit.phase(motor.first) else {
             return None;
         };
@@ -742,11 +834,7 @@ impl Maker {
         } else {
             (now, 1)
         };
-        let to_match = u32::from(time.wrapping_sub(by_timer));
-        let rate = self.unit.word(motor.first, MOD_AND_RATE) & 15;
-        let per_rate = self.unit.word(motor.first + 1, STEP_CNTL0);
-        let period = self.unit.word(motor.first + 1, STEP_CNTL1) - per_rate * (1 + rate);
-        let counts = to_match + u32::from(period) + 0x8000;
+        let counts = u32::from(time.wrapping_sub(by_timer)) + counts;
         Some(u32::from(ticks_a_count) * counts - u32::from(now % ticks_a_count) - 1)
     }
 }
@@ -921,12 +1009,25 @@ impl Maker {
 
     fn reads(&mut self) {
         for _ in 0..self.random.between(1, 8) {
-            let address = match self.random.below(3) {
+            let address = match self.random.below(4) {
                 0 => CIER + 2 * self.random.below(12) as u16,
+                1 => late_address(self.random.below(16) as usize),
                 _ => PARAMETERS + 2 * self.random.below(128) as u16,
             };
             self.read(address);
         }
+    }
+
+    /// How late a motor was, and after some ticks again; seldom a write there.
+    fn numbers(&mut self, motor: Motor) {
+        let address = late_address(motor.first);
+        let value = self.random.word();
+        self.read(address);
+        if self.random.one_in(3) {
+            self.write(address, value);
+        }
+        self.pass_time();
+        self.read(address);
     }
 
     fn status(&mut self) {
@@ -963,12 +1064,14 @@ impl Maker {
     }
 
     fn strange_address(&mut self) {
-        let address = match self.random.below(4) {
+        let address = match self.random.below(6) {
             0 => CIER + 2 * self.random.below(12) as u16 + 1,
             1 => PARAMETERS + 2 * self.random.below(128) as u16 + 1,
-            2 => self
-                .random
-                .pick(&[0xE00, 0xE08, 0xE22, 0xEFE, 0x1000, 0x0000, 0xFFFE, 0x1E0A]),
+            // The numbers, odd addresses between them, and what lies beside.
+            2 | 3 => LATE - 2 + self.random.below(36) as u16,
+            4 => self.random.pick(&[
+                0xE00, 0xE08, 0xE22, 0xEFE, 0x1000, 0x0000, 0xFFFE, 0x1E0A, 0x1E40,
+            ]),
             _ => self.random.word(),
         };
         let value = self.random.word();

@@ -1,7 +1,7 @@
 //! Two implementations side by side on the same calls.
 
 use crate::calls::{perform, Answer, Call, Lent};
-use crate::plain::{CIER, PARAMETERS};
+use crate::plain::{CIER, LATE, PARAMETERS};
 use crate::unit::{Snapshot, Unit};
 use std::fmt::{self, Debug, Display};
 
@@ -20,7 +20,7 @@ pub struct Seen {
 #[derive(Clone, Copy, Debug, PartialEq, Eq)]
 pub enum Depth {
     Whole,
-    /// Pins, registers and parameters: what calls show at once.
+    /// Pins and every word that a read gives: what calls show at once.
     Shown,
 }
 
@@ -98,11 +98,13 @@ impl Difference {
         lines
     }
 
-    /// The registers and parameters that differ.
+    /// Where a read gives another word.
     pub fn addresses(&self) -> Vec<u16> {
         let registers = (0..12).map(|i| CIER + 2 * i);
+        let late = (0..16).map(|c| LATE + 2 * c);
         let parameters = (0..128).map(|i| PARAMETERS + 2 * i);
         registers
+            .chain(late)
             .chain(parameters)
             .filter(|&address| self.one.state.at(address) != self.other.state.at(address))
             .collect()

@@ -2,7 +2,7 @@
 
 use crate::archive::Archive;
 use crate::calls::{call_list, Call};
-use crate::plain::{Plain, CIER, CISR, PARAMETERS};
+use crate::plain::{Plain, CIER, CISR, LATE, PARAMETERS};
 use crate::report;
 use crate::term3::Judged;
 use crate::watch::{Counts, Watch};
@@ -21,10 +21,11 @@ impl Hunt {
     pub fn list(&mut self, seed: u64, length: usize) -> Result<(), String> {
         let mut calls = call_list(seed, length);
         let registers = (CIER..=CISR).step_by(2);
+        let late = (LATE..=LATE + 0x1E).step_by(2);
         let parameters = (PARAMETERS..=PARAMETERS + 0xFE).step_by(2);
-        calls.extend(registers.chain(parameters).map(Call::Read));
+        calls.extend(registers.chain(late).chain(parameters).map(Call::Read));
         Watch::run(&calls, &mut self.counts);
-        if let Some(rule) = self.counts.slots.broken {
+        if let Some(rule) = self.counts.broken() {
             return Err(format!("seed {seed}: plain: not so: {rule}"));
         }
         let (mut plain, mut archive) = (Plain::default(), Archive::new());

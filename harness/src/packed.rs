@@ -1,10 +1,11 @@
 //! The state in the words that a caller of the archive lends: 128 parameter
 //! words, 12 registers, TCR1, TCR2, pins, 16 words of flags and 16 of times,
-//! the slot and the starts of the three levels, high first.
+//! the slot and the starts of the three levels, high first, 16 words of
+//! lateness, and 16 times for which a match that has happened was set.
 
 use crate::unit::{ChannelView, Phase, Slots, Snapshot};
 
-pub const WORDS: usize = 179;
+pub const WORDS: usize = 211;
 
 const REGISTERS: usize = 128;
 const TCR1: usize = 140;
@@ -14,6 +15,8 @@ const FLAGS: usize = 143;
 const TIMES: usize = 159;
 const SLOT: usize = 175;
 const STARTS: usize = 176;
+const LATE: usize = 179;
+const SET: usize = 195;
 
 /// The state that the words stand for. Any words stand for one: bits of the
 /// flags that mean nothing, and times that the phase has no use for, are
@@ -25,12 +28,15 @@ pub fn unpack(words: &[u16; WORDS]) -> Snapshot {
     parameters.copy_from_slice(&words[..REGISTERS]);
     let mut channels = [ChannelView::default(); 16];
     for (c, channel) in channels.iter_mut().enumerate() {
-        *channel = channel_of(words[FLAGS + c], words[TIMES + c]);
+        *channel = channel_of(words[FLAGS + c], words[TIMES + c], words[SET + c]);
     }
     let mut starts = [0; 3];
-    starts.copy_from_slice(&words[STARTS..]);
+    starts.copy_from_slice(&words[STARTS..LATE]);
+    let mut late = [0; 16];
+    late.copy_from_slice(&words[LATE..SET]);
     Snapshot {
         registers,
+        late,
         words: parameters,
         tcr1: words[TCR1],
         tcr2: words[TCR2],
@@ -43,7 +49,7 @@ pub fn unpack(words: &[u16; WORDS]) -> Snapshot {
     }
 }
 
-fn channel_of(flags: u16, time: u16) -> ChannelView {
+fn channel_of(flags: u16, time: u16, set: u16) -> ChannelView {
     ChannelView {
         initialised: flags & 1 != 0,
         slow: flags & 0x20 != 0,
@@ -54,7 +60,10 @@ fn channel_of(flags: u16, time: u16) -> ChannelView {
             0 => Phase::Resting,
             1 => Phase::Requested,
             2 => Phase::Armed(time),
-            _ => Phase::Matched(time),
+            _ => Phase::Matched {
+                captured: time,
+                time: set,
+            },
         },
     }
 }
@@ -68,19 +77,20 @@ pub fn pack(state: &Snapshot) -> [u16; WORDS] {
     words[TCR2] = state.tcr2;
     words[PINS] = state.pins;
     for (c, channel) in state.channels.iter().enumerate() {
-        (words[FLAGS + c], words[TIMES + c]) = words_of(channel);
+        (words[FLAGS + c], words[TIMES + c], words[SET + c]) = words_of(channel);
     }
     words[SLOT] = state.slots.slot;
-    words[STARTS..].copy_from_slice(&state.slots.starts);
+    words[STARTS..LATE].copy_from_slice(&state.slots.starts);
+    words[LATE..SET].copy_from_slice(&state.late);
     words
 }
 
-fn words_of(channel: &ChannelView) -> (u16, u16) {
-    let (phase, time) = match channel.phase {
-        Phase::Resting => (0, 0),
-        Phase::Requested => (1, 0),
-        Phase::Armed(time) => (2, time),
-        Phase::Matched(time) => (3, time),
+fn words_of(channel: &ChannelView) -> (u16, u16, u16) {
+    let (phase, time, set) = match channel.phase {
+        Phase::Resting => (0, 0, 0),
+        Phase::Requested => (1, 0, 0),
+        Phase::Armed(time) => (2, time, 0),
+        Phase::Matched { captured, time } => (3, captured, time),
     };
     let flags = u16::from(channel.initialised)
         | u16::from(channel.level) << 1
@@ -88,5 +98,5 @@ fn words_of(channel: &ChannelView) -> (u16, u16) {
         | phase << 3
         | u16::from(channel.slow) << 5
         | u16::from(channel.by_tcr2) << 6;
-    (flags, time)
+    (flags, time, set)
 }

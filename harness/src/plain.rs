@@ -1,4 +1,4 @@
-//! The timer unit of document 01, with #103, #106 and #107 of paper 02, as
+//! The timer unit of document 01, with #103 and #106 to #108 of paper 02, as
 //! plain Rust, state by `&mut`. To try the harness it can make a blunder on
 //! purpose.
 
@@ -10,6 +10,8 @@ pub const HSQR0: u16 = 0xE14;
 pub const HSRR0: u16 = 0xE18;
 pub const CPR0: u16 = 0xE1C;
 pub const CISR: u16 = 0xE20;
+/// How late channel 0 was served.
+pub const LATE: u16 = 0xE40;
 pub const PARAMETERS: u16 = 0xF00;
 
 /// Function number of the Stepper Motor.
@@ -51,6 +53,7 @@ enum Place {
     Hsrr(usize),
     Cpr(usize),
     Cisr,
+    Late(usize),
     Word(usize, usize),
 }
 
@@ -67,6 +70,7 @@ fn place(address: u16) -> Result<Place, u8> {
         0xE18..=0xE1A => Ok(Place::Hsrr(8 - (a - 0xE18) * 4)),
         0xE1C..=0xE1E => Ok(Place::Cpr(8 - (a - 0xE1C) * 4)),
         0xE20 => Ok(Place::Cisr),
+        0xE40..=0xE5E => Ok(Place::Late((a - 0xE40) / 2)),
         0xF00..=0xFFE => Ok(Place::Word((a >> 4) & 15, (a >> 1) & 7)),
         _ => Err(1),
     }
@@ -94,7 +98,8 @@ fn ask(answer: bool, number: u8) -> Result<(), u8> {
 /// A fault to be found. The first four are those of document 01, the fifth is
 /// the first board that its conditions of acceptance shut out, the sixth is the
 /// turn as it was before paper 02, #103, the next five are about the timers of
-/// #106, and the others about the slots of #107.
+/// #106, then eleven about the slots of #107, and the others about the numbers
+/// of #108.
 #[derive(Clone, Copy, Debug, PartialEq, Eq)]
 pub enum Blunder {
     /// MOD_CNT counts visits to a turn, not steps.
@@ -141,7 +146,42 @@ pub enum Blunder {
     TakesQuickRamps,
     /// Question 14 is asked after question 9.
     AsksTargetFirst,
+    /// A number is since the captured time.
+    LateFromCapture,
+    /// A number is told as the service ends: of the next match, if that was
+    /// already due at its set-up.
+    LateAtEnd,
+    /// A number is told as the match happens.
+    LateAtMatch,
+    /// A number is by TCR1 for every group.
+    LateByTcr1,
+    /// A number of $8000 or more is not kept.
+    LateBelow8000,
+    /// The arrival clears the number.
+    ArrivalClearsLate,
+    /// The service of a request clears the number.
+    RequestClearsLate,
+    /// No number is told where a request is served with the match.
+    RequestHidesLate,
+    /// A write to a number is taken.
+    TakesLate,
+    /// A read gives the number of the next channel.
+    ShowsNextLate,
 }
+
+/// The blunders about the numbers of #108.
+pub const OF_NUMBERS: [Blunder; 10] = [
+    Blunder::LateFromCapture,
+    Blunder::LateAtEnd,
+    Blunder::LateAtMatch,
+    Blunder::LateByTcr1,
+    Blunder::LateBelow8000,
+    Blunder::ArrivalClearsLate,
+    Blunder::RequestClearsLate,
+    Blunder::RequestHidesLate,
+    Blunder::TakesLate,
+    Blunder::ShowsNextLate,
+];
 
 #[derive(Clone, Copy, Default)]
 struct Channel {
@@ -157,6 +197,8 @@ struct Channel {
     level: bool,
     left: bool,
     phase: Phase,
+    /// By how many counts its latest match service came after the match time.
+    late: u16,
     /// What a blunder remembers.
     kept: Option<u16>,
 }
@@ -188,6 +230,7 @@ impl Plain {
             Place::Hsrr(low) => self.gather(low, 8, |ch| ch.request),
             Place::Cpr(low) => self.gather(low, 8, |ch| ch.priority),
             Place::Cisr => self.cisr,
+            Place::Late(c) => self.late(c),
             Place::Word(c, w) if exists(c, w) => self.words[c][w],
             Place::Word(..) => 0,
         })
@@ -201,6 +244,8 @@ impl Plain {
             Place::Hsrr(low) => return self.write_requests(low, value),
             Place::Cpr(low) => self.write_priorities(low, value),
             Place::Cisr => self.cisr &= value,
+            Place::Late(c) if self.makes(Blunder::TakesLate) => self.channels[c].late = value,
+            Place::Late(_) => return Err(1),
             Place::Word(c, w) => return self.write_word(c, w, value),
         }
         Ok(())
@@ -424,7 +469,7 @@ impl Plain {
         for c in 0..16 {
             if let Phase::Armed(time) = self.channels[c].phase {
                 if self.is_due(c, time) {
-                    self.act(c);
+                    self.act(c, time);
                 }
             }
         }
@@ -439,15 +484,39 @@ impl Plain {
 
     /// The request, and then the match that was pending before it.
     fn serve(&mut self, c: usize) {
-        let phase = self.channels[c].phase;
+        let Channel { phase, request, .. } = self.channels[c];
         self.serve_request(c);
-        if let Phase::Matched(captured) = phase {
-            if self.makes(Blunder::PinsAtService) {
-                self.show(c);
+        if let Phase::Matched { captured, time } = phase {
+            if request == 0 || !self.makes(Blunder::RequestHidesLate) {
+                self.tell(c, captured, time);
             }
-            let late = self.makes(Blunder::CountsFromService);
-            let reference = if late { self.now(c) } else { captured };
-            self.turn(c, !self.channels[c].left, reference);
+            self.serve_match(c, captured);
+        }
+    }
+
+    fn serve_match(&mut self, c: usize, captured: u16) {
+        if self.makes(Blunder::PinsAtService) {
+            self.show(c);
+        }
+        let late = self.makes(Blunder::CountsFromService);
+        let reference = if late { self.now(c) } else { captured };
+        self.turn(c, !self.channels[c].left, reference);
+        if let Phase::Matched { captured, time } = self.channels[c].phase {
+            if self.makes(Blunder::LateAtEnd) {
+                self.tell(c, captured, time);
+            }
+        }
+    }
+
+    /// The number of a match whose service begins now.
+    fn tell(&mut self, c: usize, captured: u16, time: u16) {
+        let by_tcr1 = self.makes(Blunder::LateByTcr1);
+        let now = if by_tcr1 { self.tcr1 } else { self.now(c) };
+        let from_capture = self.makes(Blunder::LateFromCapture);
+        let late = now.wrapping_sub(if from_capture { captured } else { time });
+        let dropped = late >= 0x8000 && self.makes(Blunder::LateBelow8000);
+        if !dropped && !self.makes(Blunder::LateAtMatch) {
+            self.channels[c].late = late;
         }
     }
 
@@ -496,11 +565,15 @@ impl Plain {
     }
 
     /// The match happens: prepared levels to the pins, time captured.
-    fn act(&mut self, c: usize) {
+    fn act(&mut self, c: usize, time: u16) {
         if !self.makes(Blunder::PinsAtService) {
             self.show(c);
         }
-        self.channels[c].phase = Phase::Matched(self.now(c));
+        let captured = self.now(c);
+        self.channels[c].phase = Phase::Matched { captured, time };
+        if self.makes(Blunder::LateAtMatch) {
+            self.channels[c].late = captured.wrapping_sub(time);
+        }
     }
 
     /// The prepared levels of a group go to its pins.
@@ -519,6 +592,9 @@ impl Plain {
     }
 
     fn serve_request(&mut self, c: usize) {
+        if self.channels[c].request >= INITIALISE && self.makes(Blunder::RequestClearsLate) {
+            self.channels[c].late = 0;
+        }
         match self.channels[c].request {
             INITIALISE => {
                 self.channels[c].request = 0;
@@ -526,9 +602,7 @@ impl Plain {
             }
             STEP => {
                 self.channels[c].request = 0;
-                let stepping =
-                    matches!(self.channels[c].phase, Phase::Armed(_) | Phase::Matched(_));
-                if !stepping {
+                if !self.is_stepping(c) {
                     self.bind(c);
                     self.test(c, self.reference(c));
                 }
@@ -536,6 +610,13 @@ impl Plain {
             // No history leaves 01 pending; it asks for nothing.
             _ => {}
         }
+    }
+
+    fn is_stepping(&self, c: usize) -> bool {
+        matches!(
+            self.channels[c].phase,
+            Phase::Armed(_) | Phase::Matched { .. }
+        )
     }
 
     fn initialise(&mut self, c: usize) {
@@ -553,7 +634,7 @@ impl Plain {
     fn is_ready(&self, c: usize) -> bool {
         let channel = &self.channels[c];
         let requested = matches!(channel.request, INITIALISE | STEP);
-        let matched = matches!(channel.phase, Phase::Matched(_));
+        let matched = matches!(channel.phase, Phase::Matched { .. });
         channel.priority != 0 && (requested || matched)
     }
 
@@ -607,6 +688,9 @@ impl Plain {
 
     fn arrive(&mut self, c: usize) {
         self.channels[c].phase = Phase::Resting;
+        if self.makes(Blunder::ArrivalClearsLate) {
+            self.channels[c].late = 0;
+        }
         if self.makes(Blunder::KeepsTarget) {
             let kept = self.channels[c].kept.take();
             self.words[c][TARGET] = kept.unwrap_or(self.words[c][TARGET]);
@@ -660,7 +744,7 @@ impl Plain {
             self.channels[c].kept = Some(reference);
         }
         if self.is_due(c, time) {
-            self.act(c);
+            self.act(c, time);
         }
     }
 
@@ -731,6 +815,7 @@ impl Plain {
                 level: view.level,
                 left: view.left,
                 phase: view.phase,
+                late: state.late[c],
                 ..Channel::default()
             };
         }
@@ -777,6 +862,12 @@ impl Plain {
         self.channels[c].bound
     }
 
+    /// The word at $E40 + 2 × c.
+    pub fn late(&self, c: usize) -> u16 {
+        let next = usize::from(self.makes(Blunder::ShowsNextLate));
+        self.channels[(c + next) % 16].late
+    }
+
     pub fn view(&self, c: usize) -> ChannelView {
         let channel = &self.channels[c];
         ChannelView {
@@ -821,12 +912,15 @@ impl Unit for Plain {
         }
         let mut words = [0; 128];
         let mut channels = [ChannelView::default(); 16];
+        let mut late = [0; 16];
         for c in 0..16 {
             words[8 * c..8 * c + 8].copy_from_slice(&self.words[c]);
             channels[c] = self.view(c);
+            late[c] = self.late(c);
         }
         Snapshot {
             registers,
+            late,
             words,
             tcr1: self.tcr1,
             tcr2: self.tcr2,

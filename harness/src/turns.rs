@@ -71,12 +71,12 @@ impl Need {
     }
 
     fn is_ready(self) -> bool {
-        self.level != 0 && (self.asked || matches!(self.phase, Phase::Matched(_)))
+        self.level != 0 && (self.asked || matches!(self.phase, Phase::Matched { .. }))
     }
 
     /// Between this and the tick after it the channel's match was served.
     fn has_stepped(self, after: Need) -> bool {
-        let set = matches!(self.phase, Phase::Armed(_) | Phase::Matched(_));
+        let set = matches!(self.phase, Phase::Armed(_) | Phase::Matched { .. });
         let arrived = after.phase == Phase::Resting;
         set && (arrived || self.position != after.position)
     }

@@ -10,8 +10,9 @@ pub enum Phase {
     Requested,
     /// Match set for this time.
     Armed(u16),
-    /// Match has happened; the captured time.
-    Matched(u16),
+    /// Match has happened: the time captured then, and the time for which it
+    /// was set.
+    Matched { captured: u16, time: u16 },
 }
 
 /// The part of a channel that no register shows.
@@ -43,6 +44,8 @@ pub struct Slots {
 pub struct Snapshot {
     /// The words at $E0A to $E20, in order.
     pub registers: [u16; 12],
+    /// The words at $E40 to $E5E, in order.
+    pub late: [u16; 16],
     /// The words at $F00 to $FFE, in order. In every history the missing ones
     /// are 0.
     pub words: [u16; 128],
@@ -54,10 +57,11 @@ pub struct Snapshot {
 }
 
 impl Snapshot {
-    /// The word at an address of document 01's list.
+    /// The word at an address that can be read.
     pub fn at(&self, address: u16) -> u16 {
         match usize::from(address) {
             a @ 0xF00.. => self.words[(a - 0xF00) / 2],
+            a @ 0xE40.. => self.late[(a - 0xE40) / 2],
             a => self.registers[(a - 0xE0A) / 2],
         }
     }

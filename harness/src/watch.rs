@@ -1,6 +1,7 @@
 //! Counts what happens while call lists run on the plain unit.
 
 use crate::calls::{perform, Answer, Call, Lent};
+use crate::lateness::{Lateness, Numbers};
 use crate::plain::{Plain, COUNT_AND_LAST, HSRR0, MOD_AND_RATE, POSITION, TARGET, TICKS_A_COUNT};
 use crate::turns::{Need, Slots, Turns};
 use crate::unit::{Phase, Unit};
@@ -44,6 +45,7 @@ pub struct Counts {
     pub line_up: u64,
     pub slow: Slow,
     pub slots: Slots,
+    pub numbers: Numbers,
 }
 
 /// Questions that refuse a call of the unit.
@@ -122,9 +124,15 @@ impl Counts {
             ("calls that left the line up", self.line_up),
         ];
         let single = single.into_iter().chain(self.slow.named());
+        let single = single.chain(self.numbers.named());
         all.extend(single.map(|(name, count)| (name.to_string(), count)));
         all.extend(self.slots.named());
         all
+    }
+
+    /// A rule of the slots or of the numbers that did not hold.
+    pub fn broken(&self) -> Option<&'static str> {
+        self.slots.broken.or(self.numbers.broken)
     }
 }
 
@@ -170,6 +178,7 @@ pub struct Watch {
     /// The priority that a primary has kept since its request, if it has.
     kept: [Option<u16>; 16],
     turns: Turns,
+    lateness: Lateness,
     lent: Lent,
 }
 
@@ -221,6 +230,7 @@ impl Watch {
     fn other(&mut self, call: Call, counts: &mut Counts) {
         let before = self.unit.clone();
         let answer = perform(&mut self.unit, call, &mut self.lent);
+        Lateness::call(&before, &self.unit, call, answer, &mut counts.numbers);
         match answer {
             Answer::Refused(number) => {
                 counts.refused[usize::from(number)] += 1;
@@ -281,9 +291,12 @@ impl Watch {
     }
 
     fn tick(&mut self, counts: &mut Counts) {
+        let before = self.unit.clone();
         let needs = self.needs();
         self.tick_groups(counts);
         self.turns.tick(&needs, &self.needs(), &mut counts.slots);
+        self.lateness
+            .tick(&before, &self.unit, &self.kept, &mut counts.numbers);
     }
 
     fn tick_groups(&mut self, counts: &mut Counts) {
@@ -320,7 +333,7 @@ impl Watch {
         let arrived = after.phase == Phase::Resting;
         let stepped = after.position != before.position;
         let first = before.phase == Phase::Requested;
-        if let Phase::Matched(_) = before.phase {
+        if let Phase::Matched { .. } = before.phase {
             let late = self.ticks - self.matched[c] > 1 || !self.served_next[c];
             let late = late && (stepped || arrived);
             counts.late_services += u64::from(late);
@@ -349,7 +362,7 @@ impl Watch {
 
     fn new_match(&mut self, c: usize, first: bool, after: Look, counts: &mut Counts) {
         match after.phase {
-            Phase::Matched(_) => {
+            Phase::Matched { .. } => {
                 counts.due_at_set_up += 1;
                 counts.slow.due_at_set_up += u64::from(after.by_tcr2);
                 if self.kept[c].is_some() {

@@ -1,10 +1,10 @@
 //! The harness finds the blunders of document 01, those of the timers of request
-//! #106 and those of the slots of request #107, each made by the plain unit, and
-//! shortens the list of calls that shows it.
+//! #106, of the slots of request #107 and of the numbers of request #108, each
+//! made by the plain unit, and shortens the list of calls that shows it.
 
 use harness::calls::{call_list, Call};
 use harness::compare::{first_difference, Depth};
-use harness::plain::{Blunder, Plain};
+use harness::plain::{Blunder, Plain, OF_NUMBERS};
 use harness::report::{self, Fault};
 use harness::script::Script;
 use harness::term3::{judge, Judged};
@@ -15,7 +15,8 @@ use harness::term3::{judge, Judged};
 /// neither a motor that is too quick nor a group of both kinds. Of the slots it
 /// says only that an arrival is not too late, for which these lists are seldom
 /// busy enough: see the boards of `slots`. Two services in a tick can be two
-/// steps of one motor.
+/// steps of one motor. Of numbers it knows nothing, so those blunders are not
+/// put to it.
 const BLUNDERS: [(Blunder, bool); 22] = [
     (Blunder::CountsVisits, false),
     (Blunder::ComparesPlainly, true),
@@ -92,7 +93,8 @@ fn printed(unit: Plain, script: &str) -> String {
 
 #[test]
 fn comparison_finds_each_and_tells_how() {
-    for (blunder, _) in BLUNDERS {
+    let others = BLUNDERS.map(|(blunder, _)| blunder);
+    for blunder in others.into_iter().chain(OF_NUMBERS) {
         let fault = first_fault(|calls| {
             let (mut right, mut wrong) = (Plain::default(), Plain::with(blunder));
             // Where no more than a timer differs, a script has nothing to show.

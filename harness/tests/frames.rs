@@ -148,7 +148,7 @@ struct Seen {
 impl Seen {
     fn of(state: &Snapshot, group: Row) -> Seen {
         let word = |w: usize| state.words[8 * group.first + w];
-        let waits = matches!(state.channels[group.first].phase, Phase::Matched(_));
+        let waits = matches!(state.channels[group.first].phase, Phase::Matched { .. });
         Seen {
             pins: group
                 .channels()

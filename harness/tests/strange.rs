@@ -5,7 +5,7 @@ use harness::archive::{self, Archive, WRONG_LENGTH};
 use harness::calls::{call_list, perform, Answer, Call, Lent, MARK};
 use harness::compare::{see, Depth, Difference, Seen};
 use harness::packed::{pack, unpack, WORDS};
-use harness::plain::{Plain, CIER, HSRR0, PARAMETERS};
+use harness::plain::{Plain, CIER, HSRR0, LATE, PARAMETERS};
 use harness::random::Random;
 use harness::unit::Unit;
 use harness::watch::QUESTIONS;
@@ -33,17 +33,27 @@ fn strange_words(random: &mut Random) -> [u16; WORDS] {
 }
 
 fn address(random: &mut Random) -> u16 {
-    match random.below(8) {
-        0..=3 => PARAMETERS + 2 * random.below(128) as u16,
-        4..=6 => CIER + 2 * random.below(12) as u16,
+    match random.below(17) {
+        0..=7 => PARAMETERS + 2 * random.below(128) as u16,
+        8..=13 => CIER + 2 * random.below(12) as u16,
+        14 => LATE + 2 * random.below(16) as u16,
         _ => random.word(),
+    }
+}
+
+/// Any word, or one that is too high for a target.
+fn value(random: &mut Random) -> u16 {
+    if random.one_in(8) {
+        0xFFFF - random.below(16) as u16
+    } else {
+        random.word()
     }
 }
 
 fn strange_call(random: &mut Random) -> Call {
     match random.below(80) {
         0..=9 => Call::Read(address(random)),
-        10..=39 => Call::Write(address(random), random.word()),
+        10..=39 => Call::Write(address(random), value(random)),
         // A single request is refused less often than eight.
         40..=49 => {
             let request = random.between(2, 3) as u16;
@@ -82,6 +92,7 @@ fn check_promises(before: &[u16; WORDS], after: &[u16; WORDS], call: Call, seen:
             _ => (u32::from(old.slots.slot) + made) % 7,
         };
         assert_eq!(u32::from(new.slots.slot), slot);
+        assert!(made > 0 || new.late == old.late);
         assert_eq!(new.pins, *list.last().unwrap_or(&old.pins));
     } else {
         assert_eq!(after, before);

@@ -6,8 +6,9 @@
 
 enum { WORDS = TPU_SM_STATE_WORDS, GUARD = 4, LIST = 8, FILL = 0xA5A5 };
 
-/* Where the flags and times of the channels, the slot and the starts of the levels stand among the words: see crates/pack. */
-enum { FLAGS = 143, TIMES = 159, SLOT = 175, HIGH = 176, MIDDLE = 177, LOW = 178 };
+/* Where the flags and times of the channels, the slot, the starts of the levels, the numbers of lateness and the
+   times for which matches that have happened were set stand among the words: see crates/pack. */
+enum { FLAGS = 143, TIMES = 159, SLOT = 175, HIGH = 176, MIDDLE = 177, LOW = 178, LATE = 179, SET_TIMES = 195 };
 
 static int failures = 0;
 
@@ -122,6 +123,7 @@ static void addresses(void)
     CHECK(TPU_SM_CFSR(0) == TPU_SM_CFSR3 && TPU_SM_CFSR(15) == TPU_SM_CFSR0);
     CHECK(TPU_SM_HSRR(7) == TPU_SM_HSRR1 && TPU_SM_HSRR(8) == TPU_SM_HSRR0);
     CHECK(TPU_SM_CPR(0) == TPU_SM_CPR1 && TPU_SM_CPR(15) == TPU_SM_CPR0);
+    CHECK(TPU_SM_LATE(0) == 0xE40 && TPU_SM_LATE(15) == 0xE5E);
     CHECK(TPU_SM_PARAMETER(4, 5) == 0xF4A && TPU_SM_PARAMETER(15, 7) == 0xFFE);
     CHECK(put(TPU_SM_PARAMETER(15, 7), 0x1234) == TPU_SM_TAKEN && get(TPU_SM_PARAMETER(15, 7)) == 0x1234);
     CHECK(put(TPU_SM_PARAMETER(13, 7), 0x1234) == TPU_SM_TAKEN && get(TPU_SM_PARAMETER(13, 7)) == 0);
@@ -166,6 +168,7 @@ static void refusals(void)
     const uint16_t step = TPU_SM_REQUEST(4, TPU_SM_STEP);
     motor();
     refused(0xE0B, 0, TPU_SM_NO_SUCH_ADDRESS);
+    refused(TPU_SM_LATE(4), 0, TPU_SM_NO_SUCH_ADDRESS);
     refused(TPU_SM_HSRR(0), TPU_SM_REQUEST(0, TPU_SM_INITIALISE), TPU_SM_NOT_A_STEPPER);
     refused(TPU_SM_HSRR(4), TPU_SM_REQUEST(4, TPU_SM_INITIALISE), TPU_SM_BAD_CONTROL);
     put(TPU_SM_TOP_AND_LAST(4), TPU_SM_HALVES(3, 4));
@@ -249,6 +252,36 @@ static void slots(void)
     CHECK(guards_stand());
 }
 
+static void pass(uint32_t ticks)
+{
+    uint16_t list[TPU_SM_MAX_TICKS];
+    CHECK(tpu_sm_advance(state, WORDS, ticks, list, TPU_SM_MAX_TICKS) == TPU_SM_TAKEN);
+}
+
+/* The match of tick 133, set in tick 3, waits for 20 ticks without a priority. The next one, the arrival, is served
+   at once. */
+static void lateness(void)
+{
+    motor();
+    CHECK(put(TPU_SM_HSRR(4), TPU_SM_REQUEST(4, TPU_SM_STEP)) == TPU_SM_TAKEN);
+    pass(1);
+    CHECK(put(TPU_SM_CPR(4), TPU_SM_PRIORITY(4, TPU_SM_DISABLED)) == TPU_SM_TAKEN);
+    pass(149);
+    CHECK(get(TPU_SM_LATE(4)) == 0 && state[TIMES + 4] == 133 && state[SET_TIMES + 4] == 133);
+    CHECK(put(TPU_SM_CPR(4), TPU_SM_PRIORITY(4, TPU_SM_ENABLED)) == TPU_SM_TAKEN);
+    pass(1);
+    CHECK(get(TPU_SM_LATE(4)) == 20 && state[LATE + 4] == 20 && state[SET_TIMES + 4] == 0);
+    refused(TPU_SM_LATE(4), 0, TPU_SM_NO_SUCH_ADDRESS);
+    refused(TPU_SM_LATE(15), 0xFFFF, TPU_SM_NO_SUCH_ADDRESS);
+    CHECK(tpu_sm_read(state, WORDS, TPU_SM_LATE(4)) == 20 && get(TPU_SM_LATE(5)) == 0);
+    CHECK(tpu_sm_read(state, WORDS, TPU_SM_LATE(4) + 1) == 0x00010000);
+    CHECK(tpu_sm_read(state, WORDS, TPU_SM_LATE(16)) == 0x00010000);
+    pass(110);
+    CHECK(get(TPU_SM_LATE(4)) == 0 && get(TPU_SM_CURRENT_POSITION(4)) == 2);
+    CHECK(put(TPU_SM_CURRENT_POSITION(4), 2) == TPU_SM_TAKEN);
+    CHECK(guards_stand());
+}
+
 /* A copy of the words goes on as the words do. */
 static void copies(void)
 {
@@ -264,7 +297,7 @@ static void copies(void)
 
 /* Words that no call leaves: a refused call keeps them, a taken one drops unused flags, and times of phases without one.
    Bits 5 and 6 of the flags are for TCR2. A tick brings the slot below 7, and leaves the start of a level that it does not
-   serve. */
+   serve. Any number of lateness is one. */
 static void odd_words(void)
 {
     begin();
@@ -272,12 +305,15 @@ static void odd_words(void)
     state[TIMES + 3] = 0x1234;
     state[SLOT] = 0xFFFF;
     state[LOW] = 0xABCD;
+    state[LATE + 3] = 0xFEDC;
+    state[SET_TIMES + 3] = 0x1234;
     refused(0xE0B, 0, TPU_SM_NO_SUCH_ADDRESS);
     CHECK(put(TPU_SM_CIER, 0) == TPU_SM_TAKEN);
-    CHECK(state[FLAGS + 3] == 0x60 && state[TIMES + 3] == 0);
+    CHECK(state[FLAGS + 3] == 0x60 && state[TIMES + 3] == 0 && state[SET_TIMES + 3] == 0);
     CHECK(state[SLOT] == 0xFFFF && state[LOW] == 0xABCD);
     CHECK(tpu_sm_advance(state, WORDS, 1, pins, LIST) == TPU_SM_TAKEN);
     CHECK(state[SLOT] == 2 && state[LOW] == 0xABCD);
+    CHECK(state[LATE + 3] == 0xFEDC && get(TPU_SM_LATE(3)) == 0xFEDC);
     CHECK(guards_stand());
 }
 
@@ -292,6 +328,7 @@ int main(void)
     moves();
     winders();
     slots();
+    lateness();
     copies();
     odd_words();
     return failures != 0;

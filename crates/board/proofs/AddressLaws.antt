@@ -2,16 +2,19 @@
 use Prim.Native.Nat.{ℕ, _+_, _-_, _*_, _/_, _%_, _≤_, _<_}
 use native.Mathlib.Omega.{arith}
 use mathlib.Core.Bool.{Bool, true, false, _&&_, _||_}
+use mathlib.Core.Logic.{_≢_}
 use mathlib.Core.Path.{_≡_, refl, sym, subst, _∙_, ap}
 use lib.Dec.{leb, ltb}
 use borrow.Author.Tests.{le-leb, lt-ltb, le-ltb, leb-true, ltb-true, ltb-false}
 use Rattle.words.specs.Choice.{pick}
 use Rattle.words.proofs.ChoiceLaws.{pick-cases, fails, tests, and-left, and-right}
 use Rattle.unit.specs.declared.Place.{Place}
-use Rattle.unit.specs.declared.Place.the-variants.{AtRegister, AtWord, Nowhere}
+use Rattle.unit.specs.declared.Place.the-variants.{AtRegister, AtWord, AtLate, Nowhere}
 use Rattle.unit.specs.TheUnit.{exists}
 use Rattle.unit.specs.Gate.{place}
+use Rattle.unit.specs.Readings.{wordAddress}
 use Rattle.unit.proofs.Tests.{or-left, or-right}
+use Rattle.unit.proofs.Readings.{register-place, word-place}
 use Rattle.keeping.specs.Layout.{settings, settingAddress}
 use Rattle.board.specs.Loads.{isSettingRegister, SettingAt, Addresses}
 
@@ -51,25 +54,16 @@ below-six c i e h = ltb-true i 6 (rw (fails (leb 14 c) (λ t. omega (arith, test
 unfoldable pub Settled : Place → Type 0
 Settled (AtRegister i) = isSettingRegister i ≡ true
 Settled (AtWord c i) = (c < 16) × (i < 8) × (exists c i ≡ true)
+Settled (AtLate k) = ⊥
 Settled Nowhere = ⊥
 
 -- ---- the places of addresses
 
 place-word : (a c i : ℕ) → a ≡ 0xf00 + 16 * c + 2 * i → c < 16 → i < 8 → place a ≡ AtWord c i
-unfolding place
-place-word a c i h m l =
-    let e : a % 2 ≡ 0 = omega arith in
-    let q : (a - 0xf00) / 16 ≡ c = omega arith in
-    let r : (a - 0xf00) % 16 / 2 ≡ i = omega arith in
-    let no : leb a 0xe20 ≡ false = fails (leb a 0xe20) (λ t. omega (arith, tests)) in
-    rw (e, no, le-leb 0xe0a a (omega arith), le-leb 0xf00 a (omega arith), le-leb a 0xffe (omega arith), q, r)
+place-word a c i h m l = let e : a ≡ wordAddress c i = omega arith in ap place e ∙ word-place c i m l
 
 place-register : (a i : ℕ) → a ≡ 0xe0a + 2 * i → i < 12 → place a ≡ AtRegister i
-unfolding place
-place-register a i h l =
-    let e : a % 2 ≡ 0 = omega arith in
-    let q : (a - 0xe0a) / 2 ≡ i = omega arith in
-    rw (e, le-leb 0xe0a a (omega arith), le-leb a 0xe20 (omega arith), q)
+place-register a i h l = ap place h ∙ register-place i l
 
 -- ---- setting n
 
@@ -87,6 +81,7 @@ address-cases P n low high functions priorities =
 unfoldable pub settingOf : Place → ℕ
 settingOf (AtRegister i) = pick (ltb i 9) (99 + i) (95 + i)
 settingOf (AtWord c i) = pick (ltb c 14) (6 * c + i) (84 + 8 * (c - 14) + i)
+settingOf (AtLate k) = 0
 settingOf Nowhere = 0
 
 -- p is the place of setting n
@@ -173,10 +168,16 @@ rising m n h l =
     (λ q. omega arith) (λ q r. omega arith) (λ q r. omega arith) (λ q. omega arith))
     (λ p o. omega arith) (λ p. omega arith)
 
+-- a setting is a register or a parameter word
+not-late : (n c : ℕ) → n < settings → place (settingAddress n) ≢ AtLate c
+unfolding Settled
+not-late n c h e = subst Settled e ((placed n h) .settled)
+
 pub addresses : Addresses
 addresses =
     record {
       words = word-setting;
       registers = λ i e. register-cases (SettingAt (AtRegister i)) i e (function-setting i) (priority-setting i);
       by-address = rising;
+      none-late = not-late;
     }

@@ -9,7 +9,7 @@ use Rattle.unit.specs.declared.State.{State}
 use Rattle.unit.specs.TheUnit.{resetState}
 use Rattle.unit.specs.Calls.{Call, Read, Write, Advance, run}
 use Rattle.history.specs.Moments.{Typed}
-use Rattle.history.proofs.Listed.{term-3-of, always-of, slow-moves-of, served-within-of}
+use Rattle.history.proofs.Listed.{term-3-of, always-of, slow-moves-of, served-within-of, how-late-of}
 use Rattle.isolation.proofs.OneMove.{one-move-of}
 use Rattle.blocks.specs.Claims.{Bytes}
 use Rattle.blocks.proofs.SoundLaws.{word-fits}
@@ -94,4 +94,5 @@ board-history =
       slow-moves = slow-moves-of FromBoard from-board;
       served = served-within-of FromBoard from-board;
       one-move = one-move-of FromBoard from-board;
+      how-late = how-late-of FromBoard from-board;
     }

@@ -157,6 +157,7 @@ module _ (b : List ℕ) (k : ℕ) where
         levels = x .levels;
         ways = x .ways;
         phases = x .phases;
+        late = x .late;
       }
 
 -- ---- its answer

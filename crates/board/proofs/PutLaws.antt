@@ -13,7 +13,7 @@ use Rattle.motor.specs.Group.{bound}
 use Rattle.unit.specs.declared.State.{State}
 use Rattle.unit.specs.declared.Channel.{Channel}
 use Rattle.unit.specs.declared.Place.{Place}
-use Rattle.unit.specs.declared.Place.the-variants.{AtRegister, AtWord, Nowhere}
+use Rattle.unit.specs.declared.Place.the-variants.{AtRegister, AtWord, AtLate, Nowhere}
 use Rattle.unit.specs.TheUnit.{reg, withReg, hsrrOf, request, channel, withChannel, withInitialised, word, withWord, withWords, exists, stepping}
 use Rattle.unit.specs.Gate.{stored, done}
 use Rattle.unit.specs.Calls.{wordAt}
@@ -66,10 +66,11 @@ pub record Keeps (s t : State) : Type 0 where
   pub levels : (c : ℕ) → (channel t c) .level ≡ (channel s c) .level
   pub ways : (c : ℕ) → (channel t c) .way ≡ (channel s c) .way
   pub phases : (c : ℕ) → (channel t c) .phase ≡ (channel s c) .phase
+  pub late : (c : ℕ) → (channel t c) .late ≡ (channel s c) .late
 
 pub keeps-refl : (s : State) → Keeps s s
 keeps-refl s =
-    record { registers = λ i e. refl; pins = refl; clock = refl; slots = refl; missing = λ c i l e. refl; kinds = λ c. refl; timers = λ c. refl; levels = λ c. refl; ways = λ c. refl; phases = λ c. refl }
+    record { registers = λ i e. refl; pins = refl; clock = refl; slots = refl; missing = λ c i l e. refl; kinds = λ c. refl; timers = λ c. refl; levels = λ c. refl; ways = λ c. refl; phases = λ c. refl; late = λ c. refl }
 
 pub keeps-trans : (s t w : State) → Keeps s t → Keeps t w → Keeps s w
 keeps-trans s t w x y =
@@ -84,6 +85,7 @@ keeps-trans s t w x y =
       levels = λ c. y .levels c ∙ x .levels c;
       ways = λ c. y .ways c ∙ x .ways c;
       phases = λ c. y .phases c ∙ x .phases c;
+      late = λ c. y .late c ∙ x .late c;
     }
 
 pub put-keeps : (s : State) (p : Place) (v : ℕ) → Settled p → Keeps s (put p v s)
@@ -100,6 +102,7 @@ put-keeps s (AtRegister i) v x =
       levels = λ c. refl;
       ways = λ c. refl;
       phases = λ c. refl;
+      late = λ c. refl;
     }
 put-keeps s (AtWord c i) v x =
     let y : WordLeaves c i s (stored s (8 * c + i) v) = word-leaves c i v s (x .1) in
@@ -114,6 +117,7 @@ put-keeps s (AtWord c i) v x =
       levels = y .levels;
       ways = λ d. stored-ways s c i v d (x .1);
       phases = y .stepping;
+      late = y .late;
     }
   where
     apart : (c i d k : ℕ) → i < 8 → k < 8 → exists c i ≡ true → exists d k ≡ false → 8 * d + k ≡ 8 * c + i → ⊥
@@ -121,6 +125,7 @@ put-keeps s (AtWord c i) v x =
         let a : d ≡ c = omega arith in
         let b : k ≡ i = omega arith in
         not-both e (subst (λ m. exists c m ≡ false) b (subst (λ m. exists m k ≡ false) a f))
+put-keeps s (AtLate k) v x = absurd x
 put-keeps s Nowhere v x = absurd x
 
 not-setting : (c : ℕ) → isSettingRegister (hsrrOf c) ≡ false
@@ -138,6 +143,7 @@ pub put-sized : (s : State) (p : Place) (v : ℕ) → Settled p → Sized s → 
 unfolding put deedAt done Settled
 put-sized s (AtRegister i) v x z = sized-reg s i v z
 put-sized s (AtWord c i) v x z = sized-stored s (8 * c + i) v z
+put-sized s (AtLate k) v x z = absurd x
 put-sized s Nowhere v x z = absurd x
 
 small-register : (i : ℕ) → isSettingRegister i ≡ true → i < 12
@@ -148,6 +154,7 @@ pub put-same : (s : State) (p : Place) (v : ℕ) → Settled p → Sized s → w
 unfolding put deedAt done Settled wordAt
 put-same s (AtRegister i) v x z = reg-same s i v (small-register i x) z
 put-same s (AtWord c i) v x z = rw (x .2) (stored-word s c i v (x .0) (x .1) z)
+put-same s (AtLate k) v x z = absurd x
 put-same s Nowhere v x z = absurd x
 
 -- and any other reads as before
@@ -165,8 +172,11 @@ put-other s (AtWord c i) (AtWord d k) v x y n = rw (y .2) ((word-leaves c i v s 
         let a : c ≡ d = omega arith in
         let b : i ≡ k = omega arith in
         cc
+put-other s (AtWord c i) (AtLate k) v x y n = absurd y
 put-other s (AtWord c i) Nowhere v x y n = absurd y
+put-other s (AtRegister i) (AtLate k) v x y n = absurd y
 put-other s (AtRegister i) Nowhere v x y n = absurd y
+put-other s (AtLate k) q v x y n = absurd x
 put-other s Nowhere q v x y n = absurd x
 
 -- ---- who is initialised
@@ -182,4 +192,5 @@ put-stays-cleared s (AtRegister i) v d x z e = e
 put-stays-cleared s (AtWord c i) v d x z e =
     stored-cases (λ t. (channel t d) .initialised ≡ false) s c i v (x .1)
     (λ q. stays-cleared (withWord s c i v) c d (x .0) (sized-word s c i v z) e) e
+put-stays-cleared s (AtLate k) v d x z e = absurd x
 put-stays-cleared s Nowhere v d x z e = absurd x

@@ -11,7 +11,7 @@ use Rattle.words.specs.Field.{field}
 use Rattle.words.proofs.ChoiceLaws.{pick-cases, fails, not-both, and-left, and-right}
 use Rattle.unit.specs.declared.State.{State}
 use Rattle.unit.specs.declared.Place.{Place}
-use Rattle.unit.specs.declared.Place.the-variants.{AtRegister, AtWord, Nowhere}
+use Rattle.unit.specs.declared.Place.the-variants.{AtRegister, AtWord, AtLate, Nowhere}
 use Rattle.unit.specs.declared.Deed.{Deed}
 use Rattle.unit.specs.declared.Deed.the-variants.{Nothing, Parameter, Register}
 use Rattle.unit.specs.declared.Verdict.{Verdict}
@@ -58,6 +58,7 @@ all-hold f (suc n) a h = rw (all-hold f n a (λ p l. h p (omega arith))) (h (a +
 unfoldable pub deedAt : Place → ℕ → Deed
 deedAt (AtRegister i) v = Register i v
 deedAt (AtWord c i) v = Parameter (8 * c + i) v
+deedAt (AtLate k) v = Nothing
 deedAt Nowhere v = Nothing
 
 -- the state with v at a place of the settings
@@ -97,6 +98,7 @@ place-taken : (s : State) (p : Place) (v : ℕ) → Still s → Settled p → as
 unfolding askPlace deedAt Settled
 place-taken s (AtRegister i) v f x = register-taken s i v f x
 place-taken s (AtWord c i) v f x = word-taken s c i v f (x .0) (x .2)
+place-taken s (AtLate k) v f x = absurd x
 place-taken s Nowhere v f x = absurd x
 
 pub write-taken : (s : State) (a v : ℕ) → Still s → Settled (place a) → writeOf s a v ≡ record { answer = Taken; state = put (place a) v s }

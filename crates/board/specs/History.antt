@@ -12,6 +12,7 @@ use Rattle.history.specs.Term3.{Term3Of}
 use Rattle.history.specs.SlowMoves.{SlowMovesOf}
 use Rattle.history.specs.Always.{AlwaysOf}
 use Rattle.history.specs.Served.{ServedWithinOf}
+use Rattle.history.specs.Late.{HowLateOf}
 use Rattle.isolation.specs.OneMove.{OneMoveOf}
 use Rattle.blocks.specs.Claims.{Bytes}
 use Rattle.keeping.specs.declared.Which.{Which}
@@ -67,9 +68,11 @@ pub record BoardHistory : Type 0 where
   -- after a list of the board's calls the state is that after the unit's calls to which it comes, and so with each part of it
   pub returns : (s : State) (xs : List BoardCall) → boardRun s xs ≡ run s (allCalls s xs)
   pub parts : (s : State) (xs ys : List BoardCall) → allCalls s (xs ++ ys) ≡ allCalls s xs ++ allCalls (boardRun s xs) ys
-  -- term 3, what always holds, the speeds of #103, the 112 ticks of #107, and #105 as it restates it, of every list of the board's calls
+  -- term 3, what always holds, the speeds of #103, the 112 ticks of #107, #105 as it restates it, and how late the services were (#108), of
+  -- every list of the board's calls
   pub term-3 : Term3Of FromBoard
   pub always : AlwaysOf FromBoard
   pub slow-moves : SlowMovesOf FromBoard
   pub served : ServedWithinOf FromBoard
   pub one-move : OneMoveOf FromBoard
+  pub how-late : HowLateOf FromBoard

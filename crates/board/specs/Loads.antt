@@ -8,7 +8,7 @@ use lib.Dec.{leb}
 use lib.ListN.{length}
 use Rattle.unit.specs.declared.State.{State}
 use Rattle.unit.specs.declared.Place.{Place}
-use Rattle.unit.specs.declared.Place.the-variants.{AtRegister, AtWord}
+use Rattle.unit.specs.declared.Place.the-variants.{AtRegister, AtWord, AtLate}
 use Rattle.unit.specs.TheUnit.{Whole, reg, channel, word, exists, isBound}
 use Rattle.unit.specs.Gate.{place}
 use Rattle.unit.specs.Calls.{isTaken, writeOf, run}
@@ -35,6 +35,8 @@ pub record Addresses : Type 0 where
   pub words : (c i : ℕ) → c < 16 → i < 8 → exists c i ≡ true → SettingAt (AtWord c i)
   pub registers : (i : ℕ) → isSettingRegister i ≡ true → SettingAt (AtRegister i)
   pub by-address : (m n : ℕ) → m < n → n < 100 → settingAddress m < settingAddress n
+  -- none of them is a number of paper 02, #108
+  pub none-late : (n c : ℕ) → n < settings → place (settingAddress n) ≢ AtLate c
 
 -- ---- the block that is loaded
 
@@ -73,6 +75,7 @@ pub record Leaves (s t : State) : Type 0 where
   pub levels : (c : ℕ) → (channel t c) .level ≡ (channel s c) .level
   pub ways : (c : ℕ) → (channel t c) .way ≡ (channel s c) .way
   pub phases : (c : ℕ) → (channel t c) .phase ≡ (channel s c) .phase
+  pub late : (c : ℕ) → (channel t c) .late ≡ (channel s c) .late
 
 -- all sixteen channels are free
 unfoldable pub AllFree : State → Type 0

@@ -1,8 +1,10 @@
 // What is kept of a channel beside its registers and words, after what may happen to it.
 ghost use mathlib.Core.Path.{_≡_};
 ghost use Rattle.motor.specs.declared.Phase.the-variants.{Matched};
+ghost use Rattle.motor.specs.Group.{timeSet};
 ghost use Rattle.unit.specs.TheUnit.{kindIn};
-ghost use Rattle.channel.specs.Record.{inPhase, setUp, withLevelIn, standing};
+ghost use Rattle.channel.specs.Record.{inPhase, setUp, withLevelIn, withLateIn, toldIn, standing};
+use crate::pending;
 use crate::service::Plan;
 use motor::Outcome;
 use motor::Phase;
@@ -36,6 +38,7 @@ pub fn set_up(x: Channel, kind: Timer) -> Channel
         timer: timer,
         way: way,
         phase: phase,
+        late: x.late,
     }
 }
 
@@ -53,6 +56,41 @@ pub fn with_level(x: Channel, on: bool) -> Channel
         timer: timer,
         way: way,
         phase: phase,
+        late: x.late,
+    }
+}
+
+// With the number of its latest match service.
+fn with_late(x: Channel, n: u16) -> Channel
+    ensures { λ r. ⌜ r ≡ withLateIn x n ⌝ }
+{
+    let kind = x.kind;
+    let timer = x.timer;
+    let way = x.way;
+    let phase = x.phase;
+    Channel {
+        initialised: x.initialised,
+        kind: kind,
+        level: x.level,
+        timer: timer,
+        way: way,
+        phase: phase,
+        late: n,
+    }
+}
+
+// As the service of a primary in this phase begins: a match tells by how many counts it is past.
+pub fn told(x: Channel, p: Phase, now: u16) -> Channel
+    ensures { λ r. ⌜ r ≡ toldIn p now x ⌝ }
+{
+    match p {
+        Phase::Resting => x,
+        Phase::Requested => x,
+        Phase::Armed(_) => x,
+        Phase::Matched(_, time) => {
+            let t = clock::past(now, time);
+            with_late(x, t.counts)
+        }
     }
 }
 
@@ -68,15 +106,17 @@ fn in_phase(x: Channel, way: Way, phase: Phase) -> Channel
         timer: timer,
         way: way,
         phase: phase,
+        late: x.late,
     }
 }
 
 // The time is captured; the direction stays.
 pub fn happened(x: Channel, now: u16) -> Channel
-    ensures { λ r. ⌜ r ≡ inPhase x (x .way) (Matched now) ⌝ }
+    ensures { λ r. ⌜ r ≡ inPhase x (x .way) (Matched now (timeSet (x .phase))) ⌝ }
 {
     let way = x.way;
-    in_phase(x, way, Phase::Matched(now))
+    let phase = x.phase;
+    in_phase(x, way, Phase::Matched(now, pending::time_set(phase)))
 }
 
 // At rest, or with a match set for its time, which may have happened there.
@@ -90,8 +130,9 @@ pub fn standing(p: Plan, x: Channel) -> Channel
             in_phase(x, way, Phase::Resting)
         }
         Outcome::Step(way, _) => {
-            if clock::due(p.now, p.time) {
-                return in_phase(x, way, Phase::Matched(p.now));
+            let t = clock::past(p.now, p.time);
+            if t.due {
+                return in_phase(x, way, Phase::Matched(p.now, p.time));
             }
             in_phase(x, way, Phase::Armed(p.time))
         }

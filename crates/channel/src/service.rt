@@ -33,7 +33,7 @@ pub fn is_tested(r: u16, p: Phase) -> bool
         Phase::Resting => r == 3,
         Phase::Requested => r == 3,
         Phase::Armed(_) => false,
-        Phase::Matched(_) => true,
+        Phase::Matched(_, _) => true,
     }
 }
 
@@ -45,7 +45,7 @@ pub fn reference(p: Phase, now: u16) -> u16
         Phase::Resting => now,
         Phase::Requested => now,
         Phase::Armed(_) => now,
-        Phase::Matched(captured) => captured,
+        Phase::Matched(captured, _) => captured,
     }
 }
 
@@ -56,7 +56,7 @@ pub fn decided(p: Phase, m: Motor) -> Outcome
         Phase::Resting => decision::on_request(m),
         Phase::Requested => decision::on_request(m),
         Phase::Armed(_) => decision::on_request(m),
-        Phase::Matched(_) => decision::on_match(m),
+        Phase::Matched(_, _) => decision::on_match(m),
     }
 }
 

@@ -17,6 +17,7 @@ use Rattle.history.specs.Leaves.{WritesLeave}
 use Rattle.history.specs.Always.{Always}
 use Rattle.history.specs.Timers.{TimersCount}
 use Rattle.history.specs.Served.{ServedWithin}
+use Rattle.history.specs.Late.{HowLate}
 use Rattle.history.specs.Term3.{CallsAre, Term3}
 use Rattle.history.specs.SlowMoves as history
 use Rattle.isolation.specs.OneMove.{OneMove}
@@ -25,6 +26,7 @@ use Rattle.moves.specs.Trap.{Trap}
 use Rattle.trials.specs.Trials.{Trials}
 use Rattle.trials.specs.History.{Met}
 use Rattle.trials.specs.Winder.{Winds}
+use Rattle.trials.specs.AtOnce.{AtOnce}
 use Rattle.text.specs.Claims.{DecimalShort}
 use Rattle.parse.specs.Claims as parse
 use Rattle.script.specs.Claims as script
@@ -136,6 +138,12 @@ pub record OneAtATime : Type 0 where
   pub served : ServedWithin
   pub schedules : Schedules
 
+-- request #108: the number of each channel in every list of calls, and two motors of which one is served late. `history` of `Settings` has
+-- it with saves and loads; `readings` and `takes` say what a read and a write there get
+pub record Lateness : Type 0 where
+  pub how-late : HowLate
+  pub at-once : AtOnce
+
 pub record Delivered : Type 0 where
   pub term-1 : EveryCall
   pub term-2 : EveryTick
@@ -147,3 +155,4 @@ pub record Delivered : Type 0 where
   pub two-frames : TwoFrames
   pub two-timers : TwoTimers
   pub one-service : OneAtATime
+  pub lateness : Lateness

@@ -10,6 +10,8 @@ use borrow.Author.Tests.{le-leb, eq-eqb, ne-eqb, eqb-true, eqb-false}
 use Rattle.words.specs.Choice.{pick}
 use Rattle.words.specs.Field.{field, bitOf}
 use Rattle.words.proofs.ChoiceLaws.{pick-cases, not-both, fails, and-left, and-right}
+use Rattle.motor.specs.declared.Phase.the-variants.{Matched}
+use Rattle.motor.specs.Group.{timeSet}
 use Rattle.unit.specs.declared.State.{State}
 use Rattle.unit.specs.declared.Channel.{Channel}
 use Rattle.unit.specs.TheUnit.{reg, status, word, hsrrOf, pin, reaches, isBound, last, idle, resetState, request, channel, channelControl, kindIn, pinControl, position, stepping}
@@ -106,11 +108,11 @@ module _ (j : ℕ) (s : State) (r : ReachedBy j s) (n : pin (tick s) j ≢ pin s
   still y = acted (actsAt ((channel s (r .primary)) .phase) (clockOf (r .primary) (tick s))) refl ((y .channels j (r .above) (r .below)) .pin)
 
   stepped : StepIs (r .primary) s (tick s) → ByMatch j s
-  unfolding pinAfterMatch
+  unfolding pinAfterMatch timeSet
   stepped y = by (isPast (clockOf (r .primary) (tick s)) (y .match .time)) refl ((y .channels j (r .above) (r .below)) .pin)
     where
       by : (b : Bool) → isPast (clockOf (r .primary) (tick s)) (y .match .time) ≡ b → pin (tick s) j ≡ pick b ((channel (tick s) j) .level) (pinAfterMatch (r .primary) j s (tick s)) → ByMatch j s
-      by true t q = record { primary = r .primary; reached = reached; level = inr (y .match .happens t, q) }
+      by true t q = record { primary = r .primary; reached = reached; level = inr (y .match .happens t ∙ ap (Matched (clockOf (r .primary) (tick s))) (sym (ap timeSet (y .match .happens t))), q) }
       by false t q = acted (actsAt ((channel s (r .primary)) .phase) (clockOf (r .primary) (tick s))) refl q
 
 pins-only : (calls : List Call) (s : State) → StateOf calls s → (j : ℕ) → j < 16 → pin (tick s) j ≢ pin s j → (b : Bool) → isBound s j ≡ b → ByInitialise j s ⊎ ByMatch j s

@@ -14,7 +14,7 @@ use Rattle.motor.specs.Group.{bound}
 use Rattle.unit.specs.declared.State.{State}
 use Rattle.unit.specs.declared.Channel.{Channel}
 use Rattle.unit.specs.declared.Place.{Place}
-use Rattle.unit.specs.declared.Place.the-variants.{AtRegister, AtWord, Nowhere}
+use Rattle.unit.specs.declared.Place.the-variants.{AtRegister, AtWord, AtLate, Nowhere}
 use Rattle.unit.specs.TheUnit.{each, reg, hsrrOf, request, withRequest, withReg, withBinding, withChannel, channel, word, last, stepping, reaches, isBound}
 use Rattle.unit.specs.Gate.{place, requested, requestedOne, Asked, askChannel, andThen, askChannels, askRegister, askPlace}
 use Rattle.unit.specs.Calls.{answeredBy, writeOf, isTaken}
@@ -138,6 +138,7 @@ asked-word (suc n) i c v s l a b p q e f g =
 asked-place : (c v : ℕ) (p : Place) (s : State) → isStepOf c v p ≡ true → Fine s → stepping s c ≡ false → isTaken ((answeredBy (askPlace s p v) s) .answer) ≡ true → MayStep c s
 unfolding isStepOf askPlace hsrrOf
 asked-place c v (AtWord j i) s e f g t = absurd (not-both e refl)
+asked-place c v (AtLate j) s e f g t = absurd (not-both e refl)
 asked-place c v Nowhere s e f g t = absurd (not-both e refl)
 asked-place c v (AtRegister i) s e f g t =
     let k : (i ≡ hsrrOf c) × (c < 16) × (field 2 v (2 * (c % 8)) ≡ 3) = step-of i v c e in

@@ -20,13 +20,13 @@ use Rattle.motor.specs.declared.Phase.the-variants.{Resting, Requested, Armed, 
 use Rattle.motor.specs.declared.Outcome.{Outcome}
 use Rattle.motor.specs.declared.Outcome.the-variants.{Arrived, Step}
 use Rattle.unit.specs.declared.State.{State}
-use Rattle.unit.specs.TheUnit.{withTimers, hsrrOf, reg, request, withRequest, withSlots, status, withStatus, withPin, withPins, channel, withChannel, withSetUp, kindIn, withPhase, word, withWord, withWords, stepping, reaches, channelControl, pinControl}
+use Rattle.unit.specs.TheUnit.{withTimers, hsrrOf, reg, request, withRequest, withSlots, status, withStatus, withPin, withPins, channel, withChannel, withSetUp, kindIn, withPhase, withLate, word, withWord, withWords, stepping, reaches, channelControl, pinControl}
 use Rattle.unit.specs.Stepping.{stepped, outcome}
 use Rattle.unit.specs.OneTick.{matched, initialise, stepRequest, requestServed, matchServed, served, slotServed, clocked, matches, serviceIn, tick}
 use Rattle.unit.proofs.Reset.{Sized}
 use Rattle.unit.proofs.Passing.{left-each, left-step, left-matched}
 use Rattle.unit.proofs.Access.{sized-pin, sized-word, sized-channel, request-same, request-other, request-status, status-same, status-other, status-request}
-use Rattle.history.proofs.Frame.{Going, sized-request, sized-phase, sized-requestServed}
+use Rattle.history.proofs.Frame.{Going, sized-request, sized-phase, sized-requestServed, sized-late}
 use Rattle.history.proofs.Alone.{Fades, request-initialise, fades-matches, fades-slots, served-small}
 use Rattle.history.proofs.Ticks.{ours}
 use Rattle.history.proofs.Parts.{part, part-served, part-request}
@@ -73,14 +73,14 @@ module _ (i j : ℕ) (hi : i < 16) (hj : j < 16) (n : j ≢ i) where
   bits-stepRequest Resting s z = bits-outcome s _ _ z
   bits-stepRequest Requested s z = bits-outcome s _ _ z
   bits-stepRequest (Armed t) s z = refl
-  bits-stepRequest (Matched t) s z = refl
+  bits-stepRequest (Matched t m) s z = refl
 
   bits-matchServed : (p : Phase) (s : State) → Sized s → bits (matchServed p i s) j ≡ bits s j
-  unfolding matchServed
+  unfolding matchServed withLate withChannel
   bits-matchServed Resting s z = refl
   bits-matchServed Requested s z = refl
   bits-matchServed (Armed t) s z = refl
-  bits-matchServed (Matched t) s z = bits-outcome s t _ z
+  bits-matchServed (Matched t m) s z = bits-outcome (withLate s i _) t _ (sized-late s i _ z) ∙ bits-regs _ s j refl
 
   bits-requestServed : (s : State) → Sized s → bits (requestServed i s) j ≡ bits s j
   unfolding requestServed
@@ -109,14 +109,14 @@ unfolding stepRequest
 request-stepRequest Resting j s = request-outcome j s _ _
 request-stepRequest Requested j s = request-outcome j s _ _
 request-stepRequest (Armed t) j s = refl
-request-stepRequest (Matched t) j s = refl
+request-stepRequest (Matched t m) j s = refl
 
 request-matchServed : (p : Phase) (j : ℕ) (s : State) → request (matchServed p j s) j ≡ request s j
-unfolding matchServed
+unfolding matchServed withLate withChannel request reg
 request-matchServed Resting j s = refl
 request-matchServed Requested j s = refl
 request-matchServed (Armed t) j s = refl
-request-matchServed (Matched t) j s = request-outcome j s t _
+request-matchServed (Matched t m) j s = request-outcome j (withLate s j _) t _
 
 request-served : (j : ℕ) (s : State) → Sized s → 2 ≤ request s j → request (served j s) j ≡ 0
 unfolding served requestServed request

@@ -27,7 +27,7 @@ use Rattle.motor.specs.declared.Outcome.{Outcome}
 use Rattle.motor.specs.declared.Outcome.the-variants.{Arrived, Step}
 use Rattle.unit.specs.declared.Channel.{Channel}
 use Rattle.unit.specs.declared.State.{State}
-use Rattle.unit.specs.TheUnit.{withReg, withTimers, withSlots, withPins, withChannel, each, cisr, hsrrOf, cprOf, withInitialised, withBinding, stepping, reg, request, withRequest, priority, withStatus, withPin, channel, withSetUp, withLevel, withPhase, timeFor, withWords, withWord, modCount, size}
+use Rattle.unit.specs.TheUnit.{withReg, withTimers, withSlots, withPins, withChannel, each, cisr, hsrrOf, cprOf, withInitialised, withBinding, stepping, reg, request, withRequest, priority, withStatus, withPin, channel, withSetUp, withLevel, withPhase, withLate, timeFor, withWords, withWord, modCount, size}
 use Rattle.unit.specs.Stepping.{pinOut, pinsOut, nextCount, prepared, matchSet, stepped, outcome}
 use Rattle.unit.specs.OneTick.{matchOf, matched, initialise, stepRequest, requestServed, matchServed, served, slotServed, clocked, matches, serviceIn, tick}
 use Rattle.unit.specs.Pending.{isMatched, isWanted, wanted, asksOf}
@@ -76,6 +76,10 @@ module _ (c : ℕ) (hc : c < 16) (b : State) where
   unfolding withLevel
   still-level j on s f = still-channel j _ s (channel-keeps (λ (y : Channel). y .phase) s j _ c refl) f
 
+  still-late : (j n : ℕ) (s : State) → Still c b s → Still c b (withLate s j n)
+  unfolding withLate
+  still-late j n s f = still-channel j _ s (channel-keeps (λ (y : Channel). y .phase) s j _ c refl) f
+
   still-setUp : (j : ℕ) (k : Timer) (s : State) → Still c b s → Still c b (withSetUp s j k)
   unfolding withSetUp
   still-setUp j k s f = still-channel j _ s (channel-keeps (λ (y : Channel). y .phase) s j _ c refl) f
@@ -118,21 +122,21 @@ module _ (c : ℕ) (hc : c < 16) (b : State) where
     still-matchOf Resting s f = f
     still-matchOf Requested s f = f
     still-matchOf (Armed t) s f = pick-cases (Still c b) (due (timeFor s d) t) (λ a. still-phase _ _ _ (still-pins d s f)) (λ a. f)
-    still-matchOf (Matched t) s f = f
+    still-matchOf (Matched t m) s f = f
 
     still-stepRequest : (p : Phase) (s : State) → Still c b s → Still c b (stepRequest p d s)
     unfolding stepRequest
     still-stepRequest Resting s f = still-outcome _ _ s f
     still-stepRequest Requested s f = still-outcome _ _ s f
     still-stepRequest (Armed t) s f = f
-    still-stepRequest (Matched t) s f = f
+    still-stepRequest (Matched t m) s f = f
 
     still-matchServed : (p : Phase) (s : State) → Still c b s → Still c b (matchServed p d s)
     unfolding matchServed
     still-matchServed Resting s f = f
     still-matchServed Requested s f = f
     still-matchServed (Armed t) s f = f
-    still-matchServed (Matched t) s f = still-outcome t _ s f
+    still-matchServed (Matched t m) s f = still-outcome t _ _ (still-late d _ s f)
 
     still-served : (s : State) → Still c b s → Still c b (served d s)
     unfolding served requestServed initialise
@@ -163,10 +167,10 @@ still-refl c s z = record { sized = z; request = refl; phase = refl; slots = ref
 
 -- ---- a tick
 
-matched-waits : (c : ℕ) (z : Slots) (u : State) (w : Way) (x : ℕ) → c < 16 → Sized u → u .slots ≡ z → Waits c z (withPhase u c w (Matched x))
+matched-waits : (c : ℕ) (z : Slots) (u : State) (w : Way) (x m : ℕ) → c < 16 → Sized u → u .slots ≡ z → Waits c z (withPhase u c w (Matched x m))
 unfolding Waiting withPhase withChannel isMatched
-matched-waits c z u w x h y q =
-    let e = channel-same u c record { initialised = (channel u c) .initialised; kind = (channel u c) .kind; level = (channel u c) .level; timer = (channel u c) .timer; way = w; phase = Matched x } h y in
+matched-waits c z u w x m h y q =
+    let e = channel-same u c record { initialised = (channel u c) .initialised; kind = (channel u c) .kind; level = (channel u c) .level; timer = (channel u c) .timer; way = w; phase = Matched x m; late = (channel u c) .late } h y in
     record { sized = sized-channel u c _ y; waits = inr (ap (λ (k : Channel). isMatched (k .phase)) e); slots = q }
 
 with-slots : (c : ℕ) (u : Slots) (t : State) {z : Slots} → Waits c z t → Waits c u (withSlots t u)
@@ -182,9 +186,9 @@ own-matchOf c z (Armed t) s h w =
     pick-cases (Waits c z) (due (timeFor s c) t)
     (λ a.
     let u : Still c s (pinsOut s c) = still-pins c h s c s (still-refl c s (w .sized)) in
-    matched-waits c z (pinsOut s c) _ (timeFor s c) h (u .sized) (u .slots ∙ w .slots))
+    matched-waits c z (pinsOut s c) _ (timeFor s c) t h (u .sized) (u .slots ∙ w .slots))
     (λ a. w)
-own-matchOf c z (Matched t) s h w = w
+own-matchOf c z (Matched t m) s h w = w
 
 waits-matched : (c : ℕ) (z : Slots) (j : ℕ) (s : State) → c < 16 → j < 16 → Waits c z s → Waits c z (matched j s)
 unfolding matched

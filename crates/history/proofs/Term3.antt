@@ -14,7 +14,7 @@ use Rattle.words.specs.declared.Timer.the-variants.{Tcr1, Tcr2}
 use Rattle.words.specs.Choice.{pick, ask}
 use Rattle.words.specs.Clock.{ticksACount}
 use Rattle.words.specs.Field.{bitOf}
-use Rattle.words.proofs.ChoiceLaws.{not-both, fails, tests, and-left, and-right}
+use Rattle.words.proofs.ChoiceLaws.{not-both, and-left, and-right}
 use Rattle.motor.specs.Group.{Group, bound, aimed}
 use Rattle.motor.specs.Stepping.{period}
 use Rattle.motor.specs.Group as group
@@ -31,6 +31,7 @@ use Rattle.unit.specs.declared.Place.{Place}
 use Rattle.unit.specs.declared.Place.the-variants.{AtWord}
 use Rattle.unit.specs.Gate.{gate, place, isFree, askWord, askPlace, stored}
 use Rattle.unit.specs.Calls.{Call, answeredBy, writeOf, isTaken}
+use Rattle.unit.specs.Readings.{wordAddress}
 use Rattle.history.specs.Moments.{Act, Writes, acts, does, through, Typed, see, isTargetOf, eventOf, moments, SetsGoing}
 use Rattle.history.specs.Term3.{inTicks, longestStep, Freed, Run, atRequest, atStart, atCount, atEnd, momentsGone, momentsNow, Cut, Homed, Term3}
 use Rattle.unit.proofs.Reset.{Sized}
@@ -38,6 +39,7 @@ use Rattle.history.proofs.Look.{look}
 use Rattle.history.proofs.Own.{viewIn, view, groupIn}
 use Rattle.history.proofs.Alone.{Alone}
 use Rattle.unit.proofs.Tests.{or-right}
+use Rattle.unit.proofs.Readings.{word-place}
 use Rattle.history.proofs.Held.{Held, is-free, rests-still, still-reach}
 use Rattle.history.proofs.Walk.{IfTaken, taken-answer, taken-yes, word-yes, RegisterDeeds, walk-place}
 use Rattle.unit.proofs.Places.{PlaceGood, place-good, gate-place}
@@ -96,12 +98,7 @@ freed-member c s a g j x y = is-unbound j s own none
 
 -- CURRENT_POSITION of a channel is a parameter word
 position-place : (c : ℕ) → c < 16 → place (0xf04 + 16 * c) ≡ AtWord c 2
-unfolding place
-position-place c h =
-    let e : (0xf04 + 16 * c) % 2 ≡ 0 = omega arith in
-    let q : (0xf04 + 16 * c - 0xf00) / 16 ≡ c = omega arith in
-    let r : (0xf04 + 16 * c - 0xf00) % 16 / 2 ≡ 2 = omega arith in
-    rw (e, fails (leb (0xf04 + 16 * c) 0xe20) (λ t. omega (arith, tests)), le-leb 0xe0a (0xf04 + 16 * c) (omega arith), le-leb 0xf00 (0xf04 + 16 * c) (omega arith), le-leb (0xf04 + 16 * c) 0xffe (omega arith), q, r)
+position-place c h = let e : 0xf04 + 16 * c ≡ wordAddress c 2 = omega arith in ap place e ∙ word-place c 2 h (omega arith)
 
 free-writable : (c : ℕ) (s : State) (v : ℕ) → isFree s c ≡ true → isTaken ((answeredBy (askWord s c 2 v) s) .answer) ≡ true
 unfolding askWord exists isTaken answeredBy ask
@@ -225,10 +222,10 @@ begun r k = begin (r .c) (r .a) (r .v) (atRequest r) (started r k) (k .starts)
 bound-begun : (c : ℕ) (s : State) → Begun c s → isBound s c ≡ true
 bound-begun c s b = bound-stepping c s (b .held .alone) ∙ b .held .up
 
-gone-by : (r : Run) → Cut r → Running (momentsGone r) × (isBound (atCount r) (r .c) ≡ true)
+pub gone-by : (r : Run) → Cut r → Running (momentsGone r) × (isBound (atCount r) (r .c) ≡ true)
 gone-by r k = let b : Begun (r .c) (atStart r) = begun r k in under-way (r .c) (r .gone) (atStart r) (ahead (r .c) (atStart r) (b .held)) (bound-begun (r .c) (atStart r) b) (k .under-way)
 
-count-ahead : (r : Run) → Cut r → Ahead (r .c) (atCount r)
+pub count-ahead : (r : Run) → Cut r → Ahead (r .c) (atCount r)
 count-ahead r k = (chain (r .c) (r .gone) (atStart r) (ahead (r .c) (atStart r) (begun r k .held)) (gone-by r k .0)) .ahead
 
 pub now-by : (r : Run) → Cut r → UpToArrival (momentsNow r) → Running (momentsNow r)

@@ -9,7 +9,7 @@ use mathlib.Core.Logic.{_≢_, _⊎_, inl, inr, ⊎-elim}
 use lib.Dec.{eqb}
 use borrow.Author.Tests.{eq-eqb, ne-eqb}
 use Rattle.words.specs.Choice.{pick}
-use Rattle.words.proofs.ChoiceLaws.{not-both}
+use Rattle.words.proofs.ChoiceLaws.{not-both, pick-cases}
 use Rattle.words.specs.declared.Timer.{Timer}
 use Rattle.words.specs.declared.Timer.the-variants.{Tcr1, Tcr2}
 use Rattle.words.specs.declared.Timers.{Timers}
@@ -26,7 +26,7 @@ use Rattle.motor.specs.declared.Outcome.{Outcome}
 use Rattle.motor.specs.declared.Outcome.the-variants.{Arrived, Step}
 use Rattle.motor.specs.Stepping.{period, ahead, onRequest, onMatch, moved}
 use Rattle.motor.specs.Track.{NextTo, Valid, Serves}
-use Rattle.motor.specs.Group.{Group, armed, happened, SlowAtFirst}
+use Rattle.motor.specs.Group.{Group, armed, happened, SlowAtFirst, timeSet}
 use Rattle.motor.specs.Group as group
 use Rattle.motor.specs.Count.{Running}
 use Rattle.motor.specs.SlowMoves.{Pace}
@@ -101,7 +101,7 @@ module _ (c : ℕ) (s t : State) (f : Fine s) (w : Way) (k : ℕ) (acted already
 
 -- where a step comes from, and at which next rate it leaves the motor
 record From (c : ℕ) (s t : State) (reference : ℕ) (w : Way) (k : ℕ) : Type 0 where
-  from : (((channel s c) .phase ≡ Requested) × (reference ≡ clockOf c t) × Sets w c s) ⊎ ((unserved ((channel s c) .phase) (clockOf c t) ≡ Matched reference) × GoesOn w c s)
+  from : (((channel s c) .phase ≡ Requested) × (reference ≡ clockOf c t) × Sets w c s) ⊎ ((unserved ((channel s c) .phase) (clockOf c t) ≡ Matched reference (timeSet ((channel s c) .phase))) × GoesOn w c s)
   pace : Pace (top s c) (placesAhead w c s) (nextRate s c) k
 
 ahead-is : (w : Way) (c : ℕ) (s : State) → ahead w (motorOf s c) ≡ placesAhead w c s
@@ -120,12 +120,20 @@ unfolding clockOf
 clock-is c s = shown-is ((channel s c) .timer) (s .timers)
 
 -- the phase after the matches, in this crate's own words and in crate motor's
-unserved-is : (p : Phase) (now : ℕ) → happened now p ≡ unserved p now
+pub unserved-is : (p : Phase) (now : ℕ) → happened now p ≡ unserved p now
 unfolding happened armed unserved isPast due since
 unserved-is Resting now = refl
 unserved-is Requested now = refl
 unserved-is (Armed time) now = refl
-unserved-is (Matched captured) now = refl
+unserved-is (Matched captured time) now = refl
+
+-- a match that happens stays one for its time
+pub set-stays : (p : Phase) (now : ℕ) → timeSet (happened now p) ≡ timeSet p
+unfolding happened armed timeSet
+set-stays Resting now = refl
+set-stays Requested now = refl
+set-stays (Armed time) now = pick-cases (λ p. timeSet p ≡ time) (due now time) (λ a. refl) (λ a. refl)
+set-stays (Matched captured time) now = refl
 
 pub on-enabled : (c : ℕ) (s : State) → ours c s ≡ true → Enabled c s
 unfolding priority Enabled priorityOf cprOf
@@ -245,12 +253,12 @@ module _ (c : ℕ) (s : State) (h : Held c s) (f : Fine s) where
       let d = request-decides w (motorOf s c) k (valid .least) e in
       record { from = inl (r, sym time, subst (λ n. 1 ≤ n) (ahead-is w c s) (d .0)); pace = subst (λ n. Pace (top s c) n (nextRate s c) k) (ahead-is w c s) (d .1) }
 
-  by-match : (x : ℕ) (w : Way) (k : ℕ) → happened (timeNext s c) ((channel s c) .phase) ≡ Matched x → onMatch (motorOf s c) ≡ Step w k → From c s t x w k
-  unfolding GoesOn motorOf
-  by-match x w k q e =
+  by-match : (x m : ℕ) (w : Way) (k : ℕ) → happened (timeNext s c) ((channel s c) .phase) ≡ Matched x m → onMatch (motorOf s c) ≡ Step w k → From c s t x w k
+  unfolding GoesOn motorOf timeSet
+  by-match x m w k q e =
       let d = match-decides w (motorOf s c) k (valid .least) e in
       record {
-        from = inr (sym (unserved-is ((channel s c) .phase) (clockOf c t)) ∙ ap (λ y. happened y ((channel s c) .phase)) time ∙ q, subst Continued (ahead-is w c s) (d .0));
+        from = inr (sym (unserved-is ((channel s c) .phase) (clockOf c t)) ∙ ap (λ y. happened y ((channel s c) .phase)) time ∙ q ∙ ap (Matched x) (sym (ap timeSet q) ∙ set-stays ((channel s c) .phase) (timeNext s c)), subst Continued (ahead-is w c s) (d .0));
         pace = subst (λ n. Pace (top s c) n (nextRate s c) k) (ahead-is w c s) (d .1);
       }
     where
@@ -266,8 +274,8 @@ module _ (c : ℕ) (s : State) (h : Held c s) (f : Fine s) where
       let r : (channel s c) .phase ≡ Requested = happened-requested _ ((channel s c) .phase) x in
       step-by on slot (timeNext s c) (onRequest (motorOf s c)) (λ w k o. by-request w k r o) e parts (one-step .on-request (motorOf s c) valid (slow r))
   step-phase on slot (Armed y) x e parts = idle (λ o. ap isPending x) e parts
-  step-phase on slot (Matched y) x e parts =
-      step-by on slot y (onMatch (motorOf s c)) (λ w k o. by-match y w k x o) e parts (one-step .on-match (motorOf s c) valid)
+  step-phase on slot (Matched y m) x e parts =
+      step-by on slot y (onMatch (motorOf s c)) (λ w k o. by-match y m w k x o) e parts (one-step .on-match (motorOf s c) valid)
 
   -- the part of each channel, by the view after the matches
   pub parts-turned : (j : ℕ) → c ≤ j → j ≤ last s c

@@ -8,6 +8,7 @@ use Rattle.words.specs.declared.Timer.the-variants.{Tcr1, Tcr2}
 use Rattle.words.specs.Field.{field, bitOf}
 use Rattle.words.specs.Rotation.{rotatedRight}
 use Rattle.motor.specs.declared.Phase.the-variants.{Matched}
+use Rattle.motor.specs.Group.{timeSet}
 use Rattle.unit.specs.declared.State.{State}
 use Rattle.unit.specs.TheUnit.{resetState, reg, pin, request, reaches, isBound, function, channel, word, channelControl, pinControl, position, modCount, last, stepping}
 use Rattle.history.specs.OneStep.{Enabled, IsServed, clockOf, actsAt}
@@ -57,7 +58,7 @@ pub record ByMatch (j : ℕ) (s : State) : Type 0 where
   pub primary : ℕ
   pub reached : reaches s j primary ≡ true
   pub level : ((actsAt ((channel s primary) .phase) (clockOf primary (tick s)) ≡ true) × (pin (tick s) j ≡ (channel s j) .level))
-      ⊎ (((channel (tick s) primary) .phase ≡ Matched (clockOf primary (tick s))) × (pin (tick s) j ≡ (channel (tick s) j) .level))
+      ⊎ (((channel (tick s) primary) .phase ≡ Matched (clockOf primary (tick s)) (timeSet ((channel (tick s) primary) .phase))) × (pin (tick s) j ≡ (channel (tick s) j) .level))
 
 -- a tick from s to t leaves every word of channel j but CHANNEL_CONTROL, and its motor at rest
 pub record LeavesWords (j : ℕ) (s t : State) : Type 0 where

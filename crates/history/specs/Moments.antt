@@ -12,7 +12,7 @@ use Rattle.unit.specs.declared.State.{State}
 use Rattle.unit.specs.TheUnit.{hsrrOf, reg, status, position, target, nextRate, isBound}
 use Rattle.unit.specs.OneTick.{tick}
 use Rattle.unit.specs.declared.Place.{Place}
-use Rattle.unit.specs.declared.Place.the-variants.{AtRegister, AtWord, Nowhere}
+use Rattle.unit.specs.declared.Place.the-variants.{AtRegister, AtWord, AtLate, Nowhere}
 use Rattle.unit.specs.Gate.{place, advanceGood}
 use Rattle.unit.specs.Calls.{isTaken, writeOf, Call, Read, Write, Advance}
 
@@ -61,12 +61,14 @@ see c s =
 unfoldable pub isTargetOf : ℕ → Place → Bool
 isTargetOf c (AtRegister i) = false
 isTargetOf c (AtWord j i) = eqb j c && eqb i 3
+isTargetOf c (AtLate j) = false
 isTargetOf c Nowhere = false
 
 -- the word v there has a step request of the channel c
 unfoldable pub isStepOf : ℕ → ℕ → Place → Bool
 isStepOf c v (AtRegister i) = eqb i (hsrrOf c) && (ltb c 16 && eqb (field 2 v (2 * (c % 8))) 3)
 isStepOf c v (AtWord j i) = false
+isStepOf c v (AtLate j) = false
 isStepOf c v Nowhere = false
 
 -- a taken write to the target's word is a target taken

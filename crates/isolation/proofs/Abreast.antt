@@ -13,7 +13,8 @@ use Rattle.words.specs.Field.{field}
 use Rattle.words.proofs.ChoiceLaws.{pick-cases, same-pick, and-left, and-right}
 use Rattle.unit.specs.declared.State.{State}
 use Rattle.unit.specs.declared.Place.{Place}
-use Rattle.unit.specs.declared.Place.the-variants.{AtRegister, AtWord, Nowhere}
+use Rattle.unit.specs.declared.Place.the-variants.{AtRegister, AtWord, AtLate, Nowhere}
+use Rattle.unit.specs.declared.Verdict.the-variants.{Refused}
 use Rattle.unit.specs.TheUnit.{reg, function, priority, cfsrOf, hsrrOf, cprOf, exists}
 use Rattle.unit.specs.OneTick.{tick}
 use Rattle.unit.specs.Gate.{place, gate, askRegister, askPlace}
@@ -75,14 +76,20 @@ module _ (s : State) (z : Sized s) (a v : ℕ) (t : isTaken ((writeOf s a v) .an
       let g : gate s a v ≡ askRegister s i v = gate-place s a v ∙ ap (λ p. askPlace s p v) e in
       subst (λ k. isTaken ((answeredBy k s) .answer) ≡ true → reg ((answeredBy k s) .state) i ≡ v) (sym g) (taken-yes (λ w. reg w i ≡ v) s (askRegister s i v) (reg-stored s i v z l n)) t
 
+  -- where the place can not be written all registers stand
+  refused-at : (k : ℕ) (p : Place) → place a ≡ p → askPlace s p v ≡ Refused 1 → reg (does (Writes a v) s) k ≡ reg s k
+  unfolding does writeOf answeredBy
+  refused-at k p e q =
+      let g : gate s a v ≡ Refused 1 = gate-place s a v ∙ ap (λ p. askPlace s p v) e ∙ q in
+      subst (λ y. reg ((answeredBy y s) .state) k ≡ reg s k) (sym g) refl
+
   -- a register is the one written, or stands
   reg-other : (k : ℕ) → (p : Place) → place a ≡ p → p ≢ AtRegister k → reg (does (Writes a v) s) k ≡ reg s k
   unfolding does reg writeOf askPlace answeredBy
   reg-other k (AtRegister i) e n = (writes-leave .at-register s a v i e) .registers k (λ q. n (ap AtRegister (sym q)))
   reg-other k (AtWord c i) e n = ap (λ (u : List ℕ). getD u k 0) ((writes-leave .at-word s a v c i e) .registers)
-  reg-other k Nowhere e n =
-      let g : gate s a v ≡ askPlace s Nowhere v = gate-place s a v ∙ ap (λ p. askPlace s p v) e in
-      subst (λ y. reg ((answeredBy y s) .state) k ≡ reg s k) (sym g) refl
+  reg-other k (AtLate c) e n = refused-at k (AtLate c) e refl
+  reg-other k Nowhere e n = refused-at k Nowhere e refl
 
 gather-none : (n a : ℕ) (f : ℕ → List Felt) → ((j : ℕ) → a ≤ j → j < a + n → f j ≡ []) → gather n a f ≡ []
 unfolding gather
@@ -137,6 +144,7 @@ left-unfelt r s v (AtRegister i) h =
     (λ u. pick-cases (λ es. es ≡ []) (leb 9 i && leb i 10)
     (λ w. gather-none 8 (8 * (10 - i)) _ (λ j l m. unfelt (inRow r j) _ _ (λ q. differs-not _ _ ((h j q) .2 (in-cpr i j w l m))))) (λ w. refl)))
 left-unfelt r s v (AtWord c i) h = ⊎-elim (λ n. rw n) (λ n. rw (and-no (inRow r c) (exists c i) n)) h
+left-unfelt r s v (AtLate k) h = refl
 left-unfelt r s v Nowhere h = refl
 
 same-felt-at : (r : Row) (s t : State) (v w : ℕ) (p : Place) → Fields r s t → SameFor r v w p → feltAt r s v p ≡ feltAt r t w p
@@ -153,6 +161,7 @@ same-felt-at r s t v w (AtRegister i) x h =
     (λ q. let e : field 2 v (2 * (j % 8)) ≡ field 2 w (2 * (j % 8)) = (h j q) .2 (in-cpr i j c l m) in (λ k. not (eqb (e k) (x .priorities j q k)), ap (Priority j) e))))
     (λ c. refl)))
 same-felt-at r s t v w (AtWord c i) x h = ap (λ y. pick (inRow r c && exists c i) (Word c i y ∷ []) []) h
+same-felt-at r s t v w (AtLate k) x h = refl
 same-felt-at r s t v w Nowhere x h = refl
 
 -- ---- what one run may do without the other
@@ -168,21 +177,20 @@ aside-unfelt r Nothing s h = refl
 abbrev numberOf : Place → ℕ
 numberOf (AtRegister i) = i
 numberOf (AtWord c i) = 0
+numberOf (AtLate k) = 0
 numberOf Nowhere = 0
 
 abbrev kindOf : Place → ℕ
 kindOf (AtRegister i) = 0
 kindOf (AtWord c i) = 1
-kindOf Nowhere = 2
+kindOf (AtLate k) = 1
+kindOf Nowhere = 1
 
 register-is : (i k : ℕ) → AtRegister i ≡ AtRegister k → i ≡ k
 register-is i k e = ap numberOf e
 
-word-not : (c i k : ℕ) → AtWord c i ≡ AtRegister k → ⊥
-word-not c i k e = let x : _≡_ {A = ℕ} 1 0 = ap kindOf e in omega arith
-
-nowhere-not : (k : ℕ) → Nowhere ≡ AtRegister k → ⊥
-nowhere-not k e = let x : _≡_ {A = ℕ} 2 0 = ap kindOf e in omega arith
+not-register : (p : Place) (k : ℕ) → 1 ≤ kindOf p → p ≡ AtRegister k → ⊥
+not-register p k h e = let x : kindOf p ≡ 0 = ap kindOf e in omega arith
 
 cfsr-range : (j : ℕ) → (1 ≤ cfsrOf j) × (cfsrOf j ≤ 4)
 unfolding cfsrOf
@@ -206,8 +214,9 @@ reg-now s z a v t k l n F x written stood = by (place a) refl
 
     by : (p : Place) → place a ≡ p → F (reg (does (Writes a v) s) k) ≡ x
     by (AtRegister i) e = at i e (eqb k i) refl
-    by (AtWord c i) e = other (AtWord c i) e (λ y. word-not c i k y)
-    by Nowhere e = other Nowhere e (λ y. nowhere-not k y)
+    by (AtWord c i) e = other (AtWord c i) e (λ y. not-register (AtWord c i) k (omega arith) y)
+    by (AtLate c) e = other (AtLate c) e (λ y. not-register (AtLate c) k (omega arith) y)
+    by Nowhere e = other Nowhere e (λ y. not-register Nowhere k (omega arith) y)
 
 module _ (s : State) (z : Sized s) (a v : ℕ) (t : isTaken ((writeOf s a v) .answer) ≡ true) (j x : ℕ) where
   function-now : ((i : ℕ) → place a ≡ AtRegister i → cfsrOf j ≡ i → field 4 v (4 * (j % 4)) ≡ x) → ((p : Place) → place a ≡ p → p ≢ AtRegister (cfsrOf j) → function s j ≡ x) → function (does (Writes a v) s) j ≡ x

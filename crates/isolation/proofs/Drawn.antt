@@ -71,16 +71,16 @@ shown-then Resting now q p e = absurd (not-both e refl)
 shown-then Requested now q p e = p
 shown-then (Armed t) now q p e = by (isPast now t) e
   where
-    by : (b : Bool) → isPending (pick b (Matched now) (Armed t)) ≡ true → pick b (q .level) (q .pin) ≡ bitOf (q .control) 15
+    by : (b : Bool) → isPending (pick b (Matched now t) (Armed t)) ≡ true → pick b (q .level) (q .pin) ≡ bitOf (q .control) 15
     by true e = p
     by false e = absurd (not-both e refl)
-shown-then (Matched t) now q p e = p
+shown-then (Matched t m) now q p e = p
 
 unfoldable pub isArmed : Phase → Bool
 isArmed Resting = false
 isArmed Requested = false
 isArmed (Armed t) = true
-isArmed (Matched t) = false
+isArmed (Matched t m) = false
 
 -- a match that is still set was set before
 still-armed : (ph : Phase) (now : ℕ) → isArmed (unserved ph now) ≡ true → (isArmed ph ≡ true) × (actsAt ph now ≡ false)
@@ -89,10 +89,10 @@ still-armed Resting now e = absurd (not-both e refl)
 still-armed Requested now e = absurd (not-both e refl)
 still-armed (Armed t) now e = by (isPast now t) refl e
   where
-    by : (b : Bool) → isPast now t ≡ b → isArmed (pick b (Matched now) (Armed t)) ≡ true → (true ≡ true) × (isPast now t ≡ false)
+    by : (b : Bool) → isPast now t ≡ b → isArmed (pick b (Matched now t) (Armed t)) ≡ true → (true ≡ true) × (isPast now t ≡ false)
     by true d e = absurd (not-both e refl)
     by false d e = (refl, d)
-still-armed (Matched t) now e = absurd (not-both e refl)
+still-armed (Matched t m) now e = absurd (not-both e refl)
 
 -- ---- what is drawn
 

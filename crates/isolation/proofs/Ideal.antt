@@ -20,7 +20,7 @@ use Rattle.unit.specs.declared.State.{State}
 use Rattle.unit.specs.declared.Verdict.{Verdict}
 use Rattle.unit.specs.declared.Verdict.the-variants.{Taken as Does, Refused as Stops}
 use Rattle.unit.specs.declared.Place.{Place}
-use Rattle.unit.specs.declared.Place.the-variants.{AtRegister, AtWord, Nowhere}
+use Rattle.unit.specs.declared.Place.the-variants.{AtRegister, AtWord, AtLate, Nowhere}
 use Rattle.unit.specs.TheUnit.{idle, cisr, reg, function, priority, withReg, withRequest, withInitialised, withChannel, withBinding, word, exists, channel, stepping, isBound}
 use Rattle.unit.specs.OneTick.{tick}
 use Rattle.unit.specs.Gate.{place, gate, requested, Asked, Yes, No, askChannel, askChannels, askRegister, askWord, askPlace, stored, done}
@@ -377,6 +377,7 @@ module _ (r : Row) (s : State) (x : Rest) (y : Settles r s x) (f : Fine s) (v : 
   unfolding askPlace PlaceGood IfTaken
   place-felt (AtRegister i) g n = register-felt i
   place-felt (AtWord c i) g n = word-felt c i (g .0) (g .1) (λ m e. n c m (ap (AtWord c) e)) (exists c i) refl
+  place-felt (AtLate k) g n = tt
   place-felt Nowhere g n = tt
 
 -- a write that is not taken leaves the state

@@ -20,7 +20,7 @@ use Rattle.motor.specs.declared.Outcome.{Outcome}
 use Rattle.motor.specs.declared.Outcome.the-variants.{Arrived, Step}
 use Rattle.motor.specs.Group.{bound}
 use Rattle.unit.specs.declared.State.{State}
-use Rattle.unit.specs.TheUnit.{each, withReg, withTimers, withPins, withChannel, withSlots, withRequest, withStatus, withPin, withSetUp, withLevel, withPhase, timeFor, word, withWord, request, size, stepping}
+use Rattle.unit.specs.TheUnit.{each, withReg, withTimers, withPins, withChannel, withSlots, withRequest, withStatus, withPin, withSetUp, withLevel, withPhase, timeFor, word, withWord, request, size, stepping, withLate}
 use Rattle.unit.specs.Stepping.{pinOut, pinsOut, prepared, matchSet, stepped, outcome}
 use Rattle.unit.specs.OneTick.{matchOf, matched, initialise, stepRequest, requestServed, matchServed, served, slotServed, clocked, matches, serviceIn, tick}
 use Rattle.unit.proofs.Reset.{Sized}
@@ -42,7 +42,7 @@ unfolding matchOf withPhase withChannel
 words-matchOf Resting c s = refl
 words-matchOf Requested c s = refl
 words-matchOf (Armed t) c s = pick-cases (λ (w : State). w .words ≡ s .words) (due (timeFor s c) t) (λ a. words-pins s c) (λ a. refl)
-words-matchOf (Matched t) c s = refl
+words-matchOf (Matched t m) c s = refl
 
 words-matches : (s : State) → (matches s) .words ≡ s .words
 unfolding matches matched clocked withSlots withTimers
@@ -98,14 +98,14 @@ module _ (b : State) where
   kept-stepRequest Resting c s up k = kept-outcome s c _ _ up k
   kept-stepRequest Requested c s up k = kept-outcome s c _ _ up k
   kept-stepRequest (Armed t) c s up k = k
-  kept-stepRequest (Matched t) c s up k = k
+  kept-stepRequest (Matched t m) c s up k = k
 
   kept-matchServed : (p : Phase) (c : ℕ) (s : State) → (bound p ≡ true → stepping b c ≡ true) → KeptWords s → KeptWords (matchServed p c s)
-  unfolding matchServed bound
+  unfolding matchServed bound withLate withChannel
   kept-matchServed Resting c s up k = k
   kept-matchServed Requested c s up k = k
   kept-matchServed (Armed t) c s up k = k
-  kept-matchServed (Matched t) c s up k = kept-outcome s c t _ (up refl) k
+  kept-matchServed (Matched t m) c s up k = kept-outcome (withLate s c _) c t _ (up refl) (kept-by s _ refl k)
 
   kept-request : (s : State) (c : ℕ) → KeptWords s → KeptWords (withRequest s c 0)
   unfolding withRequest withReg

@@ -15,7 +15,7 @@ use Rattle.motor.specs.Group.{Group, bound, timeOf, SlowAtFirst}
 use Rattle.motor.specs.Schedule.{OnSchedule}
 use Rattle.unit.specs.declared.State.{State}
 use Rattle.unit.specs.declared.Place.{Place}
-use Rattle.unit.specs.declared.Place.the-variants.{AtRegister, AtWord, Nowhere}
+use Rattle.unit.specs.declared.Place.the-variants.{AtRegister, AtWord, AtLate, Nowhere}
 use Rattle.unit.specs.TheUnit.{resetState, channel, word, pinControl, position, modCount, last, stepping}
 use Rattle.unit.specs.Gate.{place}
 use Rattle.unit.specs.Calls.{Call}
@@ -47,6 +47,7 @@ words-place : (c a v : ℕ) (s : State) (p : Place) → place a ≡ p → isStep
 unfolding does isStepOf
 words-place c a v s (AtRegister i) e t = (writes-leave .at-register s a v i e) .words
 words-place c a v s (AtWord j i) e t = absurd (not-both t refl)
+words-place c a v s (AtLate k) e t = absurd (not-both t refl)
 words-place c a v s Nowhere e t = absurd (not-both t refl)
 
 -- ---- a course at its request

@@ -52,7 +52,7 @@ unfolding isMatched Stands pending
 only c0 c1 f e n m Resting g x = refl
 only c0 c1 f e n m Requested g x = absurd x
 only c0 c1 f e n m (Armed t) g x = refl
-only c0 c1 f e n m (Matched t) g x = absurd (not-both refl g)
+only c0 c1 f e n m (Matched t w) g x = absurd (not-both refl g)
 
 -- a move that was at its target has made no step
 none-made : (c0 c1 f e n : ℕ) (m : Motor) (p : Phase) → decidesAt 0 (walked 0 m) ≡ Arrived → ((k : ℕ) → k < n → decidesAt k (walked k m) ≡ Arrived → ⊥) → Stands c0 c1 m f e n p → (n ≡ 0) × (acted n p ≡ 0)
@@ -60,7 +60,7 @@ unfolding Stands acted
 none-made c0 c1 f e zero m Resting a w x = (refl, refl)
 none-made c0 c1 f e zero m Requested a w x = absurd x
 none-made c0 c1 f e zero m (Armed t) a w x = absurd (omega (arith, x .1))
-none-made c0 c1 f e zero m (Matched t) a w x = absurd (omega (arith, x .1))
+none-made c0 c1 f e zero m (Matched t u) a w x = absurd (omega (arith, x .1))
 none-made c0 c1 f e (suc n) m p a w x = absurd (w 0 (omega arith) a)
 
 module _ (c p0 m0 end : ℕ) (source : ℕ → ℕ) (s : State) (d : Drawn c p0 m0 end source s) (c0 c1 f e : ℕ) (m : Motor) (o : OnSchedule c0 c1 m f e ((view s c) .group)) where
@@ -102,7 +102,7 @@ module _ (c p0 m0 end : ℕ) (source : ℕ → ℕ) (s : State) (d : Drawn c p0 
   by-phase j a b Resting g q x = all-shown j a b q
   by-phase j a b Requested g q x = absurd x
   by-phase j a b (Armed t) g q x = one-less j a b (o .steps) refl (x .1) (ap isArmed g)
-  by-phase j a b (Matched t) g q x = all-shown j a b q
+  by-phase j a b (Matched t m) g q x = all-shown j a b q
 
   pin-now : (j : ℕ) → c ≤ j → j ≤ end → pin s j ≡ shownAt p0 m0 (source j) m (acted (o .steps) ((channel s c) .phase))
   unfolding view viewIn groupIn look

@@ -8,7 +8,7 @@ use Rattle.words.specs.Field.{field}
 use Rattle.unit.specs.declared.State.{State}
 use Rattle.unit.specs.TheUnit.{cfsrOf, hsrrOf, cprOf, function, priority, exists}
 use Rattle.unit.specs.declared.Place.{Place}
-use Rattle.unit.specs.declared.Place.the-variants.{AtRegister, AtWord, Nowhere}
+use Rattle.unit.specs.declared.Place.the-variants.{AtRegister, AtWord, AtLate, Nowhere}
 use Rattle.unit.specs.Gate.{place}
 use Rattle.unit.specs.Calls.{isTaken, writeOf}
 use Rattle.history.specs.Moments.{Act, Ticks, Writes, Nothing, does}
@@ -22,6 +22,7 @@ SameFor r v w (AtRegister i) =
     × (hsrrOf j ≡ i → field 2 v (2 * (j % 8)) ≡ field 2 w (2 * (j % 8)))
     × (cprOf j ≡ i → field 2 v (2 * (j % 8)) ≡ field 2 w (2 * (j % 8)))
 SameFor r v w (AtWord c i) = v ≡ w
+SameFor r v w (AtLate k) = Unit {0}
 SameFor r v w Nowhere = Unit {0}
 
 -- v, written at a place, leaves the row alone: it is no word of its channels, and their fields of a shared word are written as they
@@ -33,6 +34,7 @@ LeavesAlone r s v (AtRegister i) =
     × (hsrrOf j ≡ i → field 2 v (2 * (j % 8)) < 2)
     × (cprOf j ≡ i → field 2 v (2 * (j % 8)) ≡ priority s j)
 LeavesAlone r s v (AtWord c i) = (inRow r c ≡ false) ⊎ (exists c i ≡ false)
+LeavesAlone r s v (AtLate k) = Unit {0}
 LeavesAlone r s v Nowhere = Unit {0}
 
 -- what one run may do without the other: nothing, a write that is refused, one that leaves the row alone

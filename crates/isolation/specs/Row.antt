@@ -10,7 +10,7 @@ use Rattle.words.specs.Field.{field}
 use Rattle.unit.specs.declared.State.{State}
 use Rattle.unit.specs.TheUnit.{priority, function, exists, last}
 use Rattle.unit.specs.declared.Place.{Place}
-use Rattle.unit.specs.declared.Place.the-variants.{AtRegister, AtWord, Nowhere}
+use Rattle.unit.specs.declared.Place.the-variants.{AtRegister, AtWord, AtLate, Nowhere}
 use Rattle.unit.specs.Gate.{place}
 use Rattle.unit.specs.Calls.{isTaken, writeOf}
 use Rattle.history.specs.Moments.{Act, Ticks, Writes, Nothing, does, isStepOf}
@@ -60,6 +60,7 @@ feltAt r s v (AtRegister i) =
     (pick (leb 7 i && leb i 8) (gather 8 (8 * (8 - i)) (newRequest r v))
     (pick (leb 9 i && leb i 10) (gather 8 (8 * (10 - i)) (newPriority r s v)) []))
 feltAt r s v (AtWord c i) = pick (inRow r c && exists c i) (Word c i v ∷ []) []
+feltAt r s v (AtLate k) = []
 feltAt r s v Nowhere = []
 
 -- of an act: nothing of a read, nor of a call that is refused

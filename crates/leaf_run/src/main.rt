@@ -98,8 +98,9 @@ fn due(now: u16, time: u16) {
     word(now);
     word(time);
     text(b" past");
-    word(clock::since(now, time));
-    flag(clock::due(now, time));
+    let p = clock::past(now, time);
+    word(p.counts);
+    flag(p.due);
     text(b"\n");
 }
 

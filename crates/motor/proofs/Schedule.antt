@@ -116,15 +116,15 @@ module _ (cntl0 cntl1 : ℕ) (m : Motor) (f e : ℕ) (ours : Bool) (q : ℕ → 
   stays p a = record { steps = s .steps; motor = s .motor; under-way = s .under-way; phase = a; time = time′; first = s .first; second = s .second }
 
   -- a match that has happened, e′ counts from the first service
-  matched : (c : ℕ) → 1 ≤ s .steps → Sound (clockedTo q g (Matched c)) → c ≡ later f at → at ≤ e′ → e′ ≤ at + 111 → Next (tickedTo ours q g (Matched c))
+  matched : (c x : ℕ) → 1 ≤ s .steps → Sound (clockedTo q g (Matched c x)) → c ≡ later f at → at ≤ e′ → e′ ≤ at + 111 → Next (tickedTo ours q g (Matched c x))
   unfolding serve Stands
-  matched c n d h a b =
-      let x : Group = clockedTo q g (Matched c) in
+  matched c t n d h a b =
+      let x : Group = clockedTo q g (Matched c t) in
       let o : decidesAt (s .steps) (walked (s .steps) m) ≡ onMatch (x .motor) = decides-match (s .steps) n (walked (s .steps) m) ∙ ap onMatch (sym (s .motor)) in
       pick-cases (λ v. Next v) ours
-      (λ t. subst (λ r. Next (outcome x r (onMatch (x .motor)))) (sym h)
+      (λ z. subst (λ r. Next (outcome x r (onMatch (x .motor)))) (sym h)
       (served cntl0 cntl1 m f e′ (s .steps) x d (s .motor) (s .first) (s .second) time′ (s .under-way) a b (onMatch (x .motor)) o))
-      (λ t. stays (Matched c) (h, n, a, b))
+      (λ z. stays (Matched c t) (h, n, a, b))
 
   -- one that is still to come
   coming : (t : ℕ) → Stands cntl0 cntl1 m f e (s .steps) (Armed t) → e′ < at → Next (tickedTo ours q g (Armed t))
@@ -145,13 +145,13 @@ module _ (cntl0 cntl1 : ℕ) (m : Motor) (f e : ℕ) (ours : Bool) (q : ℕ → 
       (λ b d.
       let there : since t (nextTime g) ≡ 0 = now-reached (nextTime g) t (omega (arith, z, a .3)) b in
       let now : e′ ≡ at = omega (arith, z, there, a .2) in
-      matched (nextTime g) (a .1) d (time′ ∙ ap (λ x. later f x) now) (omega arith) (omega arith))
+      matched (nextTime g) t (a .1) d (time′ ∙ ap (λ x. later f x) now) (omega arith) (omega arith))
       (λ b d. coming t a (omega (arith, still-ahead (nextTime g) t b, z)))
       d
-  by-phase (Matched c) a u d =
+  by-phase (Matched c t) a u d =
       let z : since (timeOf g) c ≡ e - at = rw (a .0, s .time) (between f at e (a .2) (omega (arith, a .3))) in
-      let late : since (timeOf g) c ≤ 110 = omega (arith, since-le (g .timer) (g .timers) c, u) in
-      matched c (a .1) d (a .0) (omega (arith, a .2)) (omega (arith, z, late, rise-one (g .timer) (g .timers)))
+      let late : since (timeOf g) c ≤ 110 = omega (arith, since-le (g .timer) (g .timers) c, u .1) in
+      matched c t (a .1) d (a .0) (omega (arith, a .2)) (omega (arith, z, late, rise-one (g .timer) (g .timers)))
 
   ticked : Sound g → Punctual l g → Next (tick ours q g)
   unfolding tick clocked
@@ -214,7 +214,7 @@ first-served q g a = by (g .phase) (a .phase) (clocked-sound q g (a .sound))
     by Requested e d =
         subst (λ f. OnSchedule (g .cntl0) (g .cntl1) (g .motor) f 0 (serve Requested (clockedTo q g Requested))) (sym (same-time (clockedTo q g Requested) _ _)) (request-served q g d)
     by (Armed t) e d = absurd (let z : _≡_ {A = ℕ} 0 1 = cc in omega arith)
-    by (Matched t) e d = absurd (let z : _≡_ {A = ℕ} 0 1 = cc in omega arith)
+    by (Matched t m) e d = absurd (let z : _≡_ {A = ℕ} 0 1 = cc in omega arith)
 
 requested-bound : (p : Phase) → p ≡ Requested → bound p ≡ true
 unfolding bound
@@ -291,7 +291,7 @@ module _ (cntl0 cntl1 : ℕ) (m : Motor) (v : Valid m) (slow : m .rate ≡ 1) (s
       by (Armed t) a =
           let e₁ : suc (n - 1) ≡ n = omega (arith, a .1) in
           record { reached = a .4; last = inl (rw e₁ (a .2)); under-way = λ k h. s .under-way k (omega arith) }
-      by (Matched c) a = record { reached = a .2; last = inl (omega (arith, a .3, apart n)); under-way = s .under-way }
+      by (Matched c t) a = record { reached = a .2; last = inl (omega (arith, a .3, apart n)); under-way = s .under-way }
 
   as-many : (f f′ e : ℕ) (g h : Group) (s : OnSchedule cntl0 cntl1 m f e g) (t : OnSchedule cntl0 cntl1 m f′ e h) → acted (s .steps) (g .phase) ≡ acted (t .steps) (h .phase)
   as-many f f′ e g h s t =
@@ -309,13 +309,13 @@ module _ (cntl0 cntl1 : ℕ) (m : Motor) (v : Valid m) (slow : m .rate ≡ 1) (s
       by Resting Resting a b k x y = k
       by Resting Requested a b k x y = absurd b
       by Resting (Armed u) a b k x y = absurd (t .under-way (s .steps) (omega (arith, b .1)) (a .0))
-      by Resting (Matched u) a b k x y = absurd (not-both refl y)
+      by Resting (Matched u v) a b k x y = absurd (not-both refl y)
       by Requested r a b k x y = absurd a
       by (Armed c) Resting a b k x y = absurd (s .under-way (t .steps) (omega (arith, a .1)) (b .0))
       by (Armed c) Requested a b k x y = absurd b
       by (Armed c) (Armed u) a b k x y = omega (arith, a .1, b .1)
-      by (Armed c) (Matched u) a b k x y = absurd (not-both refl y)
-      by (Matched c) r a b k x y = absurd (not-both refl x)
+      by (Armed c) (Matched u v) a b k x y = absurd (not-both refl y)
+      by (Matched c v) r a b k x y = absurd (not-both refl x)
 
 pub schedules : Schedules
 schedules =

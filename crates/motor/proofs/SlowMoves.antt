@@ -148,7 +148,7 @@ unfoldable Course : Phase → Motor → Type 0
 Course Resting m = Unit {0}
 Course Requested m = m .rate ≡ 1
 Course (Armed time) m = OnCourse m
-Course (Matched captured) m = OnCourse m
+Course (Matched captured time) m = OnCourse m
 
 armed-course : (c t : ℕ) (m : Motor) → OnCourse m → Course (armed c t) m
 unfolding Course armed
@@ -159,7 +159,7 @@ unfolding Course happened
 happened-course c Resting m o = tt
 happened-course c Requested m o = o
 happened-course c (Armed t) m o = armed-course c t m o
-happened-course c (Matched t) m o = o
+happened-course c (Matched t x) m o = o
 
 -- what a tick of a group with the motor m leaves
 record Drives (m : Motor) (h : Group) : Type 0 where
@@ -176,7 +176,7 @@ unfolding serve Course
 serve-drives Resting g v o c = record { motor = inl refl; course = c }
 serve-drives Requested g v o c = outcome-drives g (timeOf g) (onRequest (g .motor)) (heads-request (g .motor) v o)
 serve-drives (Armed t) g v o c = record { motor = inl refl; course = c }
-serve-drives (Matched t) g v o c = outcome-drives g t (onMatch (g .motor)) (heads-match (g .motor) v o)
+serve-drives (Matched t m) g v o c = outcome-drives g t (onMatch (g .motor)) (heads-match (g .motor) v o)
 
 tick-drives : (u : Bool) (p : ℕ → ℕ) (g : Group) → Sound g → Course (g .phase) (g .motor) → Drives (g .motor) (tick u p g)
 unfolding tick clocked

@@ -63,7 +63,7 @@ Stands cntl0 cntl1 m f e n Requested = ⊥
 Stands cntl0 cntl1 m f e n (Armed time) =
     (time ≡ later f (matchAt cntl0 cntl1 n m)) × (1 ≤ n) × (e < matchAt cntl0 cntl1 n m) × (matchAt cntl0 cntl1 n m ≤ e + 0x7fff)
     × (matchAt cntl0 cntl1 (n - 1) m ≤ e)
-Stands cntl0 cntl1 m f e n (Matched captured) =
+Stands cntl0 cntl1 m f e n (Matched captured time) =
     (captured ≡ later f (matchAt cntl0 cntl1 n m)) × (1 ≤ n) × (matchAt cntl0 cntl1 n m ≤ e) × (e ≤ matchAt cntl0 cntl1 n m + 111)
 
 pub record OnSchedule (cntl0 cntl1 : ℕ) (m : Motor) (f e : ℕ) (g : Group) : Type 0 where
@@ -80,7 +80,7 @@ unfoldable pub acted : ℕ → Phase → ℕ
 acted n Resting = n
 acted n Requested = n
 acted n (Armed time) = n - 1
-acted n (Matched captured) = n
+acted n (Matched captured time) = n
 
 pub record Schedules : Type 0 where
   -- Whatever else happens and however late its services come, if from the request on it keeps one level that is not 00 and no target is

@@ -11,7 +11,7 @@ use Rattle.words.proofs.ChoiceLaws.{not-both, and-left, and-right}
 use Rattle.motor.specs.Count.{Target, Other, isTarget, Running, Keeps}
 use Rattle.unit.specs.declared.State.{State}
 use Rattle.unit.specs.declared.Place.{Place}
-use Rattle.unit.specs.declared.Place.the-variants.{AtRegister, AtWord, Nowhere}
+use Rattle.unit.specs.declared.Place.the-variants.{AtRegister, AtWord, AtLate, Nowhere}
 use Rattle.unit.specs.TheUnit.{isBound}
 use Rattle.unit.specs.Gate.{place}
 use Rattle.unit.specs.Calls.{writeOf, isTaken}
@@ -41,6 +41,7 @@ keeps l c s (x ∷ xs) e = (eqb-true (priorityOf c s) l (and-left (eqb (priority
 unfoldable pub noAim : Row → State → Place → Bool
 noAim r s (AtRegister i) = true
 noAim r s (AtWord p i) = not (eqb i 3 && (inRow r p && isBound s p))
+noAim r s (AtLate k) = true
 noAim r s Nowhere = true
 
 unfoldable pub leavesTargets : Row → Act → State → Bool
@@ -61,6 +62,7 @@ no-aim r s p (AtWord j i) m b e t =
     let x : inRow r j ≡ true = subst (λ y. inRow r y ≡ true) (sym k) m in
     let z : isBound s j ≡ true = subst (λ y. isBound s y ≡ true) (sym k) b in
     not-both (rw (n, x, z) at e) refl
+no-aim r s p (AtLate k) m b e t = not-both t refl
 no-aim r s p Nowhere m b e t = not-both t refl
 
 no-target : (b d : Bool) → pick (b && d) Target Other ≡ Target → b ≡ true

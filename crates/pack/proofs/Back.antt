@@ -18,9 +18,9 @@ use Rattle.unit.specs.declared.Channel.{Channel}
 use Rattle.unit.specs.declared.State.{State}
 use Rattle.unit.specs.TheUnit.{idle, resetState}
 use Rattle.unit.proofs.Reset.{Sized}
-use Rattle.pack.specs.Packing.{tabulate, wayNumber, wayFrom, timerNumber, timerFrom, phaseNumber, timeIn, phaseFrom, flagsOf, timeOf, channelFrom, packedWord, packed, zeros, isWhole, wordIn, regIn, channelIn, stateIn, unpacked}
+use Rattle.pack.specs.Packing.{tabulate, wayNumber, wayFrom, timerNumber, timerFrom, phaseNumber, timeIn, setTimeIn, phaseFrom, flagsOf, timeOf, setTimeOf, channelFrom, packedWord, packed, zeros, isWhole, wordIn, regIn, channelIn, stateIn, unpacked}
 use Rattle.pack.proofs.Tabled.{length-tabled, tabled-at, tabled-is}
-use Rattle.pack.proofs.Parts.{at-words, at-registers, at-timer, at-second, at-pins, at-flags, at-times, at-slot, at-high, at-middle, at-low}
+use Rattle.pack.proofs.Parts.{at-words, at-registers, at-timer, at-second, at-pins, at-flags, at-times, at-slot, at-high, at-middle, at-low, at-lates, at-set-times}
 
 -- ---- a channel
 
@@ -47,7 +47,7 @@ phase-small : (p : Phase) → phaseNumber p ≤ 3
 phase-small Resting = omega arith
 phase-small Requested = omega arith
 phase-small (Armed time) = omega arith
-phase-small (Matched captured) = omega arith
+phase-small (Matched captured time) = omega arith
 
 bit-back : (b : Bool) → eqb (bitValue b) 1 ≡ b
 bit-back true = refl
@@ -61,24 +61,24 @@ timer-back : (k : Timer) → timerFrom (eqb (timerNumber k) 1) ≡ k
 timer-back Tcr1 = refl
 timer-back Tcr2 = refl
 
-phase-back : (p : Phase) → phaseFrom (phaseNumber p) (timeIn p) ≡ p
+phase-back : (p : Phase) → phaseFrom (phaseNumber p) (timeIn p) (setTimeIn p) ≡ p
 unfolding phaseFrom
 phase-back Resting = refl
 phase-back Requested = refl
 phase-back (Armed time) = refl
-phase-back (Matched captured) = refl
+phase-back (Matched captured time) = refl
 
-channel-back : (x : Channel) → channelFrom (flagsOf x) (timeOf x) ≡ x
-unfolding channelFrom flagsOf timeOf bitOf
+channel-back : (x : Channel) → channelFrom (flagsOf x) (timeOf x) (x .late) (setTimeOf x) ≡ x
+unfolding channelFrom flagsOf timeOf setTimeOf bitOf
 channel-back x =
     let parts = flags-apart (bitValue (x .initialised)) (bitValue (x .level)) (wayNumber (x .way)) (phaseNumber (x .phase)) (timerNumber (x .kind)) (timerNumber (x .timer)) (bit-small (x .initialised)) (bit-small (x .level)) (way-small (x .way)) (phase-small (x .phase)) (timer-small (x .kind)) (timer-small (x .timer)) in
     rw (parts .0, parts .1, parts .2, parts .3, parts .4, parts .5, bit-back (x .initialised), bit-back (x .level), way-back (x .way), phase-back (x .phase), timer-back (x .kind), timer-back (x .timer))
 
 -- ---- a state
 
-word-of : (st : State) (i : ℕ) → i < 179 → getD (packed st) i 0 ≡ packedWord st i
+word-of : (st : State) (i : ℕ) → i < 211 → getD (packed st) i 0 ≡ packedWord st i
 unfolding packed
-word-of st i h = tabled-at (packedWord st) 0 179 i h
+word-of st i h = tabled-at (packedWord st) 0 211 i h
 
 words-back : (st : State) → Sized st → tabulate 128 (wordIn (packed st)) ≡ st .words
 words-back st z = tabled-is _ 0 (st .words) 128 (z .words) (λ i h. word-of st i (omega arith) ∙ sym (at-words st i h))
@@ -102,7 +102,13 @@ channels-back st z = tabled-is _ idle (st .channels) 16 (z .channels) each
         let flags : getD (packed st) (143 + i) 0 ≡ flagsOf x = word-of st (143 + i) (omega arith) ∙ sym (at-flags st (143 + i) (omega arith) (omega arith)) ∙ ap (λ (k : ℕ). flagsOf (getD (st .channels) k idle)) e in
         let time : getD (packed st) (159 + i) 0 ≡ timeOf x =
         word-of st (159 + i) (omega arith) ∙ sym (at-times st (159 + i) (omega arith) (omega arith)) ∙ ap (λ (k : ℕ). timeOf (getD (st .channels) k idle)) f in
-        rw (flags, time) (channel-back x)
+        let g : 179 + i - 179 ≡ i = omega arith in
+        let j : 195 + i - 195 ≡ i = omega arith in
+        let late : getD (packed st) (179 + i) 0 ≡ x .late =
+        word-of st (179 + i) (omega arith) ∙ sym (at-lates st (179 + i) (omega arith) (omega arith)) ∙ ap (λ (k : ℕ). (getD (st .channels) k idle) .late) g in
+        let set-time : getD (packed st) (195 + i) 0 ≡ setTimeOf x =
+        word-of st (195 + i) (omega arith) ∙ sym (at-set-times st (195 + i) (omega arith)) ∙ ap (λ (k : ℕ). setTimeOf (getD (st .channels) k idle)) j in
+        rw (flags, time, late, set-time) (channel-back x)
 
 in-back : (st : State) → Sized st → stateIn (packed st) ≡ st
 unfolding stateIn
@@ -118,7 +124,7 @@ in-back st z =
 
 whole-packed : (st : State) → isWhole (packed st) ≡ true
 unfolding isWhole packed
-whole-packed st = eq-eqb _ 179 (length-tabled (packedWord st) 179)
+whole-packed st = eq-eqb _ 211 (length-tabled (packedWord st) 211)
 
 back : (st : State) → Sized st → unpacked (packed st) ≡ st
 unfolding unpacked
@@ -130,5 +136,5 @@ back-owned f st words regs channels =
     back st record { words = words; regs = regs; channels = sym (length-map (st .channels) f) ∙ channels }
 
 pub reset-zeros : packed resetState ≡ zeros
-unfolding zeros packed tabulate packedWord flagsOf timeOf
+unfolding zeros packed tabulate packedWord flagsOf timeOf setTimeOf
 reset-zeros = refl

@@ -6,7 +6,7 @@ use lib.ListN.{getD}
 use borrow.Author.Tests.{lt-ltb, le-ltb}
 use Rattle.unit.specs.declared.State.{State}
 use Rattle.unit.specs.TheUnit.{idle}
-use Rattle.pack.specs.Packing.{packedWord, flagsOf, timeOf}
+use Rattle.pack.specs.Packing.{packedWord, flagsOf, timeOf, setTimeOf}
 
 pub at-words : (st : State) (i : ℕ) → i < 128 → getD (st .words) i 0 ≡ packedWord st i
 unfolding packedWord
@@ -60,3 +60,39 @@ at-middle st = refl
 pub at-low : (st : State) → st .slots .low ≡ packedWord st 178
 unfolding packedWord
 at-low st = refl
+
+pub at-lates : (st : State) (i : ℕ) → 179 ≤ i → i < 195 → (getD (st .channels) (i - 179) idle) .late ≡ packedWord st i
+unfolding packedWord
+at-lates st i l h =
+    simp (
+      le-ltb i 128 (omega arith),
+      le-ltb i 140 (omega arith),
+      le-ltb i 141 (omega arith),
+      le-ltb i 142 (omega arith),
+      le-ltb i 143 (omega arith),
+      le-ltb i 159 (omega arith),
+      le-ltb i 175 (omega arith),
+      le-ltb i 176 (omega arith),
+      le-ltb i 177 (omega arith),
+      le-ltb i 178 (omega arith),
+      le-ltb i 179 l,
+      lt-ltb i 195 h,
+    )
+
+pub at-set-times : (st : State) (i : ℕ) → 195 ≤ i → setTimeOf (getD (st .channels) (i - 195) idle) ≡ packedWord st i
+unfolding packedWord
+at-set-times st i l =
+    simp (
+      le-ltb i 128 (omega arith),
+      le-ltb i 140 (omega arith),
+      le-ltb i 141 (omega arith),
+      le-ltb i 142 (omega arith),
+      le-ltb i 143 (omega arith),
+      le-ltb i 159 (omega arith),
+      le-ltb i 175 (omega arith),
+      le-ltb i 176 (omega arith),
+      le-ltb i 177 (omega arith),
+      le-ltb i 178 (omega arith),
+      le-ltb i 179 (omega arith),
+      le-ltb i 195 l,
+    )

@@ -1,5 +1,5 @@
--- The state in 179 words: 128 parameter words, 12 registers, TCR1, TCR2, the pins, 16 words of flags, 16 times, the slot, and where the
--- search of each level begins, high, middle, low.
+-- The state in 211 words: 128 parameter words, 12 registers, TCR1, TCR2, the pins, 16 words of flags, 16 times, the slot, where the search
+-- of each level begins, high, middle, low, how late each of 16 channels was, and 16 times for which matches that have happened were set.
 use Prim.Native.Nat.{ℕ, zero, suc, _+_, _-_, _*_}
 use mathlib.Core.Bool.{Bool, true, false}
 use mathlib.Core.List.{List, [], _∷_, _++_}
@@ -19,14 +19,14 @@ use Rattle.unit.specs.TheUnit.{idle, resetState}
 
 -- how many words hold a state
 abbrev pub stateWords : ℕ
-stateWords = 179
+stateWords = 211
 
 -- f 0, f 1 and so on up to f (n - 1)
 unfoldable pub tabulate : {A : Type 0} → ℕ → (ℕ → A) → List A
 tabulate zero f = []
 tabulate (suc n) f = tabulate n f ++ (f n ∷ [])
 
--- ---- what is kept of a channel, as a word of flags and a time
+-- ---- what is kept of a channel, as a word of flags, two times and how late it was
 
 -- bit 2 of the flags: the direction
 abbrev pub wayNumber : Way → ℕ
@@ -42,18 +42,25 @@ abbrev pub phaseNumber : Phase → ℕ
 phaseNumber Resting = 0
 phaseNumber Requested = 1
 phaseNumber (Armed time) = 2
-phaseNumber (Matched captured) = 3
+phaseNumber (Matched captured time) = 3
 
 -- the time of a phase, 0 where it has none
 abbrev pub timeIn : Phase → ℕ
 timeIn Resting = 0
 timeIn Requested = 0
 timeIn (Armed time) = time
-timeIn (Matched captured) = captured
+timeIn (Matched captured time) = captured
 
-unfoldable pub phaseFrom : ℕ → ℕ → Phase
-phaseFrom number time =
-    pick (eqb number 1) Requested (pick (eqb number 2) (Armed time) (pick (eqb number 3) (Matched time) Resting))
+-- the time for which a match that has happened was set, else 0
+abbrev pub setTimeIn : Phase → ℕ
+setTimeIn Resting = 0
+setTimeIn Requested = 0
+setTimeIn (Armed time) = 0
+setTimeIn (Matched captured time) = time
+
+unfoldable pub phaseFrom : ℕ → ℕ → ℕ → Phase
+phaseFrom number time set =
+    pick (eqb number 1) Requested (pick (eqb number 2) (Armed time) (pick (eqb number 3) (Matched time set) Resting))
 
 -- bit 5: the kind of the channel; bit 6: the timer of the group
 abbrev pub timerNumber : Timer → ℕ
@@ -73,16 +80,20 @@ flagsOf x =
 unfoldable pub timeOf : Channel → ℕ
 timeOf x = timeIn (x .phase)
 
--- other bits of the flags, and the time of a phase that has none, mean nothing
-unfoldable pub channelFrom : ℕ → ℕ → Channel
-channelFrom flags time =
+unfoldable pub setTimeOf : Channel → ℕ
+setTimeOf x = setTimeIn (x .phase)
+
+-- other bits of the flags, and the times of a phase that has none, mean nothing
+unfoldable pub channelFrom : ℕ → ℕ → ℕ → ℕ → Channel
+channelFrom flags time late set =
     record {
       initialised = bitOf flags 0;
       kind = timerFrom (bitOf flags 5);
       level = bitOf flags 1;
       timer = timerFrom (bitOf flags 6);
       way = wayFrom (bitOf flags 2);
-      phase = phaseFrom (field 2 flags 3) time;
+      phase = phaseFrom (field 2 flags 3) time set;
+      late = late;
     }
 
 -- ---- a state as words
@@ -100,7 +111,9 @@ packedWord st i =
     (pick (ltb i 176) (st .slots .slot)
     (pick (ltb i 177) (st .slots .high)
     (pick (ltb i 178) (st .slots .middle)
-    (st .slots .low))))))))))
+    (pick (ltb i 179) (st .slots .low)
+    (pick (ltb i 195) ((getD (st .channels) (i - 179) idle) .late)
+    (setTimeOf (getD (st .channels) (i - 195) idle)))))))))))))
 
 unfoldable pub packed : State → List ℕ
 packed st = tabulate stateWords (packedWord st)
@@ -126,7 +139,7 @@ abbrev pub regIn : List ℕ → ℕ → ℕ
 regIn s i = getD s (128 + i) 0
 
 abbrev pub channelIn : List ℕ → ℕ → Channel
-channelIn s i = channelFrom (getD s (143 + i) 0) (getD s (159 + i) 0)
+channelIn s i = channelFrom (getD s (143 + i) 0) (getD s (159 + i) 0) (getD s (179 + i) 0) (getD s (195 + i) 0)
 
 unfoldable pub stateIn : List ℕ → State
 stateIn s =

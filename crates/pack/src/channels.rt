@@ -1,8 +1,8 @@
-// What is kept of a channel as two words, flags and a time, and back.
+// What is kept of a channel, as words and back: flags, a time, how late it was, and the time for which a match that has happened was set.
 ghost use mathlib.Core.Path.{_≡_};
 ghost use Prim.Native.Nat.{_≤_};
 ghost use Rattle.words.specs.Field.{bitValue};
-ghost use Rattle.pack.specs.Packing.{wayFrom, timerFrom, phaseFrom, channelFrom, wayNumber, timerNumber, phaseNumber, flagsOf, timeIn, timeOf};
+ghost use Rattle.pack.specs.Packing.{wayFrom, timerFrom, phaseFrom, channelFrom, wayNumber, timerNumber, phaseNumber, flagsOf, timeIn, timeOf, setTimeIn, setTimeOf};
 use motor::Phase;
 use motor::Way;
 use unit::Channel;
@@ -21,8 +21,8 @@ fn timer_from(second: bool) -> Timer
     if second { Timer::Tcr2 } else { Timer::Tcr1 }
 }
 
-fn phase_from(number: u16, time: u16) -> Phase
-    ensures { λ r. ⌜ r ≡ phaseFrom number time ⌝ }
+fn phase_from(number: u16, time: u16, set: u16) -> Phase
+    ensures { λ r. ⌜ r ≡ phaseFrom number time set ⌝ }
 {
     if number == 1 {
         return Phase::Requested;
@@ -31,16 +31,16 @@ fn phase_from(number: u16, time: u16) -> Phase
         return Phase::Armed(time);
     }
     if number == 3 {
-        return Phase::Matched(time);
+        return Phase::Matched(time, set);
     }
     Phase::Resting
 }
 
-pub fn channel_from(flags: u16, time: u16) -> Channel
-    ensures { λ r. ⌜ r ≡ channelFrom flags time ⌝ }
+pub fn channel_from(flags: u16, time: u16, late: u16, set: u16) -> Channel
+    ensures { λ r. ⌜ r ≡ channelFrom flags time late set ⌝ }
 {
     let way = way_from(field::bit(flags, 2));
-    let phase = phase_from((flags >> 3) & 3, time);
+    let phase = phase_from((flags >> 3) & 3, time, set);
     let kind = timer_from(field::bit(flags, 5));
     let timer = timer_from(field::bit(flags, 6));
     Channel {
@@ -50,6 +50,7 @@ pub fn channel_from(flags: u16, time: u16) -> Channel
         timer: timer,
         way: way,
         phase: phase,
+        late: late,
     }
 }
 
@@ -85,7 +86,7 @@ fn phase_number(p: Phase) -> u16
         Phase::Resting => 0,
         Phase::Requested => 1,
         Phase::Armed(_) => 2,
-        Phase::Matched(_) => 3,
+        Phase::Matched(_, _) => 3,
     }
 }
 
@@ -111,7 +112,7 @@ fn time_in(p: Phase) -> u16
         Phase::Resting => 0,
         Phase::Requested => 0,
         Phase::Armed(time) => time,
-        Phase::Matched(time) => time,
+        Phase::Matched(captured, _) => captured,
     }
 }
 
@@ -120,4 +121,22 @@ pub fn time_of(x: Channel) -> u16
 {
     let phase = x.phase;
     time_in(phase)
+}
+
+fn set_time_in(p: Phase) -> u16
+    ensures { λ r. ⌜ r ≡ setTimeIn p ⌝ }
+{
+    match p {
+        Phase::Resting => 0,
+        Phase::Requested => 0,
+        Phase::Armed(_) => 0,
+        Phase::Matched(_, time) => time,
+    }
+}
+
+pub fn set_time_of(x: Channel) -> u16
+    ensures { λ r. ⌜ r ≡ setTimeOf x ⌝ }
+{
+    let phase = x.phase;
+    set_time_in(phase)
 }

@@ -7,8 +7,9 @@ ghost use mathlib.Core.Path.{_≡_};
 ghost use Rattle.pack.specs.Packing.{packed, unpacked, laid};
 use unit::State;
 
-// 128 parameter words, 12 registers, TCR1, TCR2, the pins, 16 words of flags, 16 times, the slot, and where the search of each level begins.
-pub const WORDS: usize = 179;
+// 128 parameter words, 12 registers, TCR1, TCR2, the pins, 16 words of flags, 16 times, the slot, where the search of each level begins,
+// how late each of 16 channels was, and 16 times for which matches that have happened were set.
+pub const WORDS: usize = 211;
 
 // The state that the words hold. Words of another number hold the state after reset.
 pub fn unpack(s: &[u16]) -> State

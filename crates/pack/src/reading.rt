@@ -1,4 +1,4 @@
-// The state out of 179 words.
+// The state out of 211 words.
 ghost use mathlib.Core.Path.{_≡_};
 ghost use lib.ListN.{length};
 ghost use Rattle.pack.specs.Packing.{tabulate, wordIn, regIn, channelIn, stateIn};
@@ -9,7 +9,7 @@ use unit::State;
 use words::Timers;
 
 fn words_in(s: &[u16]) -> [u16; 128]
-    requires { ⌜ length (now s) ≡ 179 ⌝ }
+    requires { ⌜ length (now s) ≡ 211 ⌝ }
     ensures { λ r. ⌜ r ≡ tabulate 128 (wordIn (now (s .entry))) ⌝ }
 {
     let mut w = [0u16; 128];
@@ -20,7 +20,7 @@ fn words_in(s: &[u16]) -> [u16; 128]
 }
 
 fn regs_in(s: &[u16]) -> [u16; 12]
-    requires { ⌜ length (now s) ≡ 179 ⌝ }
+    requires { ⌜ length (now s) ≡ 211 ⌝ }
     ensures { λ r. ⌜ r ≡ tabulate 12 (regIn (now (s .entry))) ⌝ }
 {
     let mut w = [0u16; 12];
@@ -31,18 +31,18 @@ fn regs_in(s: &[u16]) -> [u16; 12]
 }
 
 fn channels_in(s: &[u16]) -> [Channel; 16]
-    requires { ⌜ length (now s) ≡ 179 ⌝ }
+    requires { ⌜ length (now s) ≡ 211 ⌝ }
     ensures { λ r. ⌜ r ≡ tabulate 16 (channelIn (now (s .entry))) ⌝ }
 {
     let mut w = [Channel::IDLE; 16];
     for i in 0..16 {
-        w[i] = channels::channel_from(s[143 + i], s[159 + i]);
+        w[i] = channels::channel_from(s[143 + i], s[159 + i], s[179 + i], s[195 + i]);
     }
     w
 }
 
 pub fn state_in(s: &[u16]) -> State
-    requires { ⌜ length (now s) ≡ 179 ⌝ }
+    requires { ⌜ length (now s) ≡ 211 ⌝ }
     ensures { λ r. ⌜ r ≡ stateIn (now (s .entry)) ⌝ }
 {
     let words = words_in(s);

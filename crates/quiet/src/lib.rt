@@ -41,7 +41,7 @@ fn waits(p: Phase, timer: Timer, timers: Timers) -> u32
         Phase::Resting => State::MAX_TICKS,
         Phase::Requested => State::MAX_TICKS,
         Phase::Armed(time) => until_due(time, timer, timers),
-        Phase::Matched(_) => State::MAX_TICKS,
+        Phase::Matched(_, _) => State::MAX_TICKS,
     }
 }
 

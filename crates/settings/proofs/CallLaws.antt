@@ -8,7 +8,7 @@ use Rattle.unit.specs.declared.State.{State}
 use Rattle.unit.specs.declared.Reading.{Reading}
 use Rattle.unit.specs.declared.Reading.the-variants.{Word, Refused}
 use Rattle.unit.specs.declared.Place.{Place}
-use Rattle.unit.specs.declared.Place.the-variants.{AtRegister, AtWord, Nowhere}
+use Rattle.unit.specs.declared.Place.the-variants.{AtRegister, AtWord, AtLate, Nowhere}
 use Rattle.unit.specs.Gate.{place, isPlace, inList}
 use Rattle.unit.specs.declared.Answered.{Answered}
 use Rattle.unit.specs.Calls.{wordAt, readOf, writeOf, after, run}
@@ -25,6 +25,7 @@ read-shows : (s : State) (p : Place) → shown (ask (isPlace p) (Refused 1) (Wor
 unfolding ask isPlace wordAt
 read-shows s (AtRegister i) = refl
 read-shows s (AtWord c i) = refl
+read-shows s (AtLate c) = refl
 read-shows s Nowhere = refl
 
 pub reads-setting : (s : State) (n a : ℕ) (r q : Reading) → a ≡ settingAddress n → r ≡ readOf s a → r ≡ q → shown q ≡ setting s n

@@ -16,13 +16,13 @@ use Rattle.motor.specs.declared.Phase.{Phase}
 use Rattle.motor.specs.declared.Phase.the-variants.{Resting, Requested, Armed, Matched}
 use Rattle.motor.specs.declared.Outcome.{Outcome}
 use Rattle.motor.specs.declared.Outcome.the-variants.{Arrived, Step}
-use Rattle.motor.specs.Stepping.{onRequest, onMatch}
+use Rattle.motor.specs.Stepping.{onRequest}
 use Rattle.unit.specs.declared.Channel.{Channel}
 use Rattle.unit.specs.declared.State.{State}
-use Rattle.unit.specs.TheUnit.{idle, each, withPins, withPin, withReg, withRequest, withStatus, withWords, withWord, withChannel, withSetUp, withLevel, withPhase, timeFor, channel, channelControl, pinControl, word, reg, hsrrOf, request, size, last, position, modCount, target, nextRate, top, cntl0, cntl1, motorOf}
+use Rattle.unit.specs.TheUnit.{idle, each, withPins, withPin, withReg, withRequest, withStatus, withWords, withWord, withChannel, withSetUp, withLevel, withPhase, withLate, timeFor, channel, channelControl, pinControl, word, reg, hsrrOf, request, size, last, position, modCount, target, nextRate, top, cntl0, cntl1, motorOf}
 use Rattle.unit.specs.Stepping.{pinOut, pinsOut, turnedOnce, prepared, matchSet, stepped, outcome}
 use Rattle.unit.specs.OneTick.{initialise, stepRequest, requestServed, matchServed, served}
-use Rattle.channel.specs.Record.{withLevelIn, inPhase, standing}
+use Rattle.channel.specs.Record.{withLevelIn, withLateIn, toldIn, inPhase, standing}
 use Rattle.channel.specs.Service.{isTested, reference, decided, statusAfter}
 use Rattle.tick.specs.Parts.{sizeIn, levelsOut, motorIn, requestDone, periodIn, countIn, countedIn, levelIn, patternIn, moved, bare, pinsAfter, channelsAfter, decidedIn, timeIn, testedIn}
 
@@ -104,9 +104,9 @@ unfolding channelsAfter
 channels-after o l x y z c now time e f = rw (f, e)
 
 set-match : (b : Bool) (u : State) (c : ℕ) (w : Way) (now time : ℕ)
-    → pick b (withPhase (pinsOut u c) c w (Matched now)) (withPhase u c w (Armed time))
+    → pick b (withPhase (pinsOut u c) c w (Matched now time)) (withPhase u c w (Armed time))
     ≡ remade u (u .words) (u .regs) (pick b (levelsOut (size u c) c (u .channels) (u .pins)) (u .pins))
-    (set (u .channels) c (inPhase (channel u c) w (pick b (Matched now) (Armed time))))
+    (set (u .channels) c (inPhase (channel u c) w (pick b (Matched now time) (Armed time))))
 unfolding withPhase withChannel withPins channel
 set-match true u c w now time = rw (pins-parts u c)
 set-match false u c w now time = refl
@@ -127,7 +127,7 @@ as-parted (Step w k) s c r =
     let n = timeFor (over s t) c in
     let e : n ≡ timeFor s c = ap (λ i. timeBy i (s .timers)) (moved-timer (Step w k) c (bare (s .words) (s .channels))) in
     let pins : ℕ → ℕ = λ i. pick (due i time) (levelsOut (size t c) c (t .channels) (s .pins)) (s .pins) in
-    let channels : ℕ → List Channel = λ i. set (t .channels) c (inPhase (channel t c) w (pick (due i time) (Matched i) (Armed time))) in
+    let channels : ℕ → List Channel = λ i. set (t .channels) c (inPhase (channel t c) w (pick (due i time) (Matched i time) (Armed time))) in
     ap (λ u. matchSet u c w time) (moved-parts (Step w k) c s)
     ∙ (set-match (due n time) (over s t) c w n time
     ∙ (ap (λ i. remade s (t .words) (s .regs) (pins i) (channels i)) e
@@ -174,12 +174,39 @@ asked-to-step (suc (suc zero)) f i w s h = refl
 asked-to-step (suc (suc (suc zero))) f i w s h = refl
 asked-to-step (suc (suc (suc (suc n)))) f i w s h = absurd (omega (arith, h))
 
--- the request, and then the test
+-- the request, and then the test; before it a match tells how late it is served
 abbrev pub first : ℕ → ℕ → State → State
 first r c s = pick (leb 2 r) (requestDone s c r) s
 
+abbrev pub told : Phase → ℕ → State → State
+told p c t = withChannel t c (toldIn p (timeFor t c) (channel t c))
+
+abbrev pub tested : Phase → ℕ → State → State
+tested p c t = outcome t c (reference p (timeFor t c)) (decided p (motorOf t c))
+
 abbrev pub then : ℕ → Phase → ℕ → State → State
-then r p c t = pick (isTested r p) (outcome t c (reference p (timeFor t c)) (decided p (motorOf t c))) t
+then r p c t = pick (isTested r p) (tested p c (told p c t)) t
+
+-- a request tells nothing
+none-told : (c : ℕ) (t : State) → withChannel t c (channel t c) ≡ t
+unfolding withChannel channel
+none-told c t = rw (set-getD (t .channels) c idle)
+
+-- a match tells nothing but its number
+told-in : {A : Type 0} (f : Channel → A) (p : Phase) (now : ℕ) (x : Channel) → ((n : ℕ) → f (withLateIn x n) ≡ f x) → f (toldIn p now x) ≡ f x
+unfolding toldIn
+told-in f Resting now x h = refl
+told-in f Requested now x h = refl
+told-in f (Armed time) now x h = refl
+told-in f (Matched captured time) now x h = h _
+
+pub told-way : (p : Phase) (c : ℕ) (t : State) → (channel t c) .way ≡ (channel (told p c t) c) .way
+unfolding withChannel channel
+told-way p c t = sym (kept (λ x. x .way) (t .channels) c c _ (told-in (λ x. x .way) p _ _ (λ n. refl)))
+
+pub told-time : (p : Phase) (c : ℕ) (t : State) → timeFor t c ≡ timeFor (told p c t) c
+unfolding withChannel channel
+told-time p c t = ap (λ k. timeBy k (t .timers)) (sym (kept (λ x. x .timer) (t .channels) c c _ (told-in (λ x. x .timer) p _ _ (λ n. refl))))
 
 -- the request leaves the direction and the timer
 way-kept : (a b : Bool) (c : ℕ) (s : State) → (channel (pick a (pick b (initialise c (withRequest s c 0)) (withRequest s c 0)) s) c) .way ≡ (channel s c) .way
@@ -202,14 +229,25 @@ pub same-way : (r c : ℕ) (s t : State) → t ≡ first r c s → (channel s c)
 unfolding requestDone
 same-way r c s t e = rw e (sym (way-kept (leb 2 r) (eqb r 2) c s))
 
+asks : (r c : ℕ) (s : State) → r < 4 →
+    let t = withRequest s c 0 in
+    let f : State → State = λ t. outcome t c (timeFor t c) (onRequest (motorOf t c)) in
+    let first : State = pick (leb 2 r) (pick (eqb r 2) (initialise c t) t) s in
+    pick (eqb r 3) (f (withChannel first c (channel first c))) first ≡ pick (eqb r 2) (initialise c t) (pick (eqb r 3) (f t) s)
+asks r c s h =
+    let t = withRequest s c 0 in
+    let f : State → State = λ t. outcome t c (timeFor t c) (onRequest (motorOf t c)) in
+    let first : State = pick (leb 2 r) (pick (eqb r 2) (initialise c t) t) s in
+    ap (λ u. pick (eqb r 3) (f u) first) (none-told c first) ∙ asked-to-step r f (initialise c t) t s h
+
 in-turn : (r : ℕ) (p : Phase) (c : ℕ) (s : State) → r < 4 →
     let t = withRequest s c 0 in
     then r p c (first r c s) ≡ matchServed p c (pick (eqb r 2) (initialise c t) (pick (eqb r 3) (stepRequest p c t) s))
-unfolding isTested reference decided requestDone matchServed stepRequest
-in-turn r Resting c s h = asked-to-step r (λ t. outcome t c (timeFor t c) (onRequest (motorOf t c))) _ (withRequest s c 0) s h
-in-turn r Requested c s h = asked-to-step r (λ t. outcome t c (timeFor t c) (onRequest (motorOf t c))) _ (withRequest s c 0) s h
+unfolding isTested reference decided requestDone matchServed stepRequest toldIn withLate
+in-turn r Resting c s h = asks r c s h
+in-turn r Requested c s h = asks r c s h
 in-turn r (Armed time) c s h = asked r _ (withRequest s c 0) s h
-in-turn r (Matched captured) c s h = ap (λ t. outcome t c captured (onMatch (motorOf t c))) (asked r _ (withRequest s c 0) s h)
+in-turn r (Matched captured time) c s h = ap (λ t. tested (Matched captured time) c (told (Matched captured time) c t)) (asked r _ (withRequest s c 0) s h)
 
 served-in-turn : (s : State) (c : ℕ) → then (request s c) ((channel s c) .phase) c (first (request s c) c s) ≡ served c s
 unfolding served requestServed request
@@ -247,12 +285,12 @@ arrival-moves o c s a = rw a
 
 -- ---- the scans
 
-pub match-parts : (s : State) (c : ℕ)
+pub match-parts : (s : State) (c time : ℕ)
     → remade s (s .words) (s .regs) (levelsOut (sizeIn (getD (s .words) (8 * c + 5) 0) c) c (s .channels) (s .pins))
-    (set (s .channels) c (inPhase (getD (s .channels) c idle) ((getD (s .channels) c idle) .way) (Matched (timeFor s c))))
-    ≡ withPhase (pinsOut s c) c ((channel s c) .way) (Matched (timeFor s c))
+    (set (s .channels) c (inPhase (getD (s .channels) c idle) ((getD (s .channels) c idle) .way) (Matched (timeFor s c) time)))
+    ≡ withPhase (pinsOut s c) c ((channel s c) .way) (Matched (timeFor s c) time)
 unfolding withPhase withChannel withPins channel size last word
-match-parts s c = rw (pins-parts s c) refl
+match-parts s c time = rw (pins-parts s c) refl
 
 -- a group ends with the unit, at the latest
 pub in-sixteen : (w c : ℕ) → c < 16 → c + sizeIn w c ≤ 16

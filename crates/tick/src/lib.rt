@@ -36,7 +36,7 @@ fn match_all(mut s: State) -> State
     s
 }
 
-// The service of one channel.
+// The service of one channel: its request, then the test of its motor, before which a match tells how late it is.
 fn serve(mut s: State, c: u16) -> State
     requires { ⌜ c < 16 ⌝ }
     ensures { λ r. ⌜ r ≡ served c s ⌝ }
@@ -48,12 +48,13 @@ fn serve(mut s: State, c: u16) -> State
         s = request::done(s, c, r);
     }
     if service::is_tested(r, phase) {
-        let before = s.channels;
-        let pins = s.pins;
-        let status = s.regs[11];
         let timer = x.timer;
         let timers = s.timers;
         let now = clock::time_by(timer, timers);
+        s.channels[c as usize] = record::told(s.channels[c as usize], phase, now);
+        let before = s.channels;
+        let pins = s.pins;
+        let status = s.regs[11];
         let t = step::tested(&mut s.words, before, pins, status, c, x, now);
         let after = t.channels;
         s.channels = after;

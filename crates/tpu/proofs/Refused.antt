@@ -17,7 +17,7 @@ use Rattle.unit.specs.declared.Verdict.{Verdict}
 use Rattle.unit.specs.declared.Verdict.the-variants.{Taken as Does, Refused as Stops}
 use Rattle.unit.specs.declared.Reading.the-variants.{Word, Refused as NoWord}
 use Rattle.unit.specs.declared.Place.{Place}
-use Rattle.unit.specs.declared.Place.the-variants.{AtRegister, AtWord, Nowhere}
+use Rattle.unit.specs.declared.Place.the-variants.{AtRegister, AtWord, AtLate, Nowhere}
 use Rattle.unit.specs.TheUnit.{all, cisr, request, exists, top, target, cntl0, cntl1, stepping}
 use Rattle.unit.specs.Gate.{place, Reads, Writes, inList, isFree, isStepper, mayInitialise, spanGood, groupReady, patternGood, rampGood, quickGood, targetGood, advanceGood, Asked, Yes, No, askInitialise, askStep, askChannel, andThen, askChannels, verdictOf, keepsOrFree, askRegister, askWord, askPlace, gate}
 use Rattle.unit.specs.Calls.{answeredBy, readOf, writeOf, advanceOf, wordAt}
@@ -101,6 +101,7 @@ judged-place : (s : State) (p : Place) (v : ℕ) → Judged (askPlace s p v)
 unfolding askPlace
 judged-place s (AtRegister i) v = judged-register s i v
 judged-place s (AtWord c i) v = judged-word s c i v
+judged-place s (AtLate c) v = (omega arith, inl (omega arith))
 judged-place s Nowhere v = (omega arith, inl (omega arith))
 
 judged : (s : State) (a v : ℕ) → Judged (gate s a v)

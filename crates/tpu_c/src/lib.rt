@@ -62,7 +62,7 @@ pub extern "C" fn tpu_sm_read(state: &[u16], address: u16) -> u32
 
 // The state of a taken call goes to the lent words; a refused one leaves them, whatever they are.
 fn finish(r: Answered, state: &mut [u16]) -> u16
-    requires { ⌜ length (now state) ≡ 179 ⌝ }
+    requires { ⌜ length (now state) ≡ 211 ⌝ }
     ensures { λ n. ⌜ (n ≡ answerNumber (r .answer)) × (now (state .exit) ≡ wordsAfter r (now (state .entry)))
         × (isTaken (r .answer) ≡ true → unpacked (packed (r .state)) ≡ r .state) ⌝ }
 {

@@ -144,7 +144,8 @@ fn due(now: u16, time: u16) {
     show::named_word(b"due at TCR1", now);
     show::named_word(b" match", time);
     show::colon();
-    show::either(clock::due(now, time), b" yes", b" no");
+    let p = clock::past(now, time);
+    show::either(p.due, b" yes", b" no");
     show::end();
 }
 

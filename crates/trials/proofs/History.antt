@@ -6,10 +6,10 @@ use mathlib.Core.List.{List, [], _∷_, _++_}
 use mathlib.Core.Path.{_≡_, refl}
 use lib.Dec.{eqb}
 use borrow.Author.Tests.{eqb-true}
-use Rattle.unit.specs.TheUnit.{resetState, withWords, withReg, withTimers, withPins, withChannel, each, all, any, cfsrOf, hsrrOf, cprOf, reg, function, request, withSlots, withRequest, priority, status, withStatus, withPin, channel, withInitialised, withSetUp, withLevel, withPhase, withBinding, kindIn, word, withWord, exists, channelControl, pinControl, position, target, modCount, nextRate, top, last, cntl0, cntl1, size, motorOf, stepping, reaches, isBound}
+use Rattle.unit.specs.TheUnit.{resetState, withWords, withReg, withTimers, withPins, withChannel, each, all, any, cfsrOf, hsrrOf, cprOf, reg, function, request, withSlots, withRequest, priority, status, withStatus, withPin, channel, withInitialised, withSetUp, withLevel, withPhase, withBinding, withLate, kindIn, word, withWord, exists, channelControl, pinControl, position, target, modCount, nextRate, top, last, cntl0, cntl1, size, motorOf, stepping, reaches, isBound}
 use Rattle.unit.specs.Stepping.{pinOut, pinsOut, nextCount, turnedOnce, prepared, matchSet, stepped, outcome}
 use Rattle.unit.specs.OneTick.{matchOf, matched, initialise, stepRequest, requestServed, matchServed, served, slotServed, clocked, matches, serviceIn, tick, afterTicks}
-use Rattle.unit.specs.Gate.{place, isPlace, inList, isFree, isStepper, isTimed, mayInitialise, otherwiseZero, spanGood, isReady, groupReady, showsPattern, patternGood, rampGood, quickGood, targetGood, advanceGood, requested, askInitialise, askStep, askChannel, andThen, askChannels, verdictOf, keepsOrFree, askRegister, askWord, askPlace, gate, requestedOne, stored, done}
+use Rattle.unit.specs.Gate.{place, isWritten, inList, isFree, isStepper, isTimed, mayInitialise, otherwiseZero, spanGood, isReady, groupReady, showsPattern, patternGood, rampGood, quickGood, targetGood, advanceGood, requested, askInitialise, askStep, askChannel, andThen, askChannels, verdictOf, keepsOrFree, askRegister, askWord, askPlace, gate, requestedOne, stored, done}
 use Rattle.unit.specs.Pending.{isMatched, isWanted, wanted, asksOf}
 use Rattle.slots.specs.Slots.{ticked, slotLevel, begins, found, highest, chosen}
 use Rattle.slots.specs.Slots as slots
@@ -31,11 +31,11 @@ use Rattle.history.proofs.Calls.{allWords, typed}
 use Rattle.history.proofs.Term3.{term-3}
 
 -- tests over moments, which compute, and what they say
-unfoldable allBound : List Moment → Bool
+unfoldable pub allBound : List Moment → Bool
 allBound [] = true
 allBound (m ∷ ms) = m .is .bound && allBound ms
 
-unfoldable allKept : List Moment → Bool
+unfoldable pub allKept : List Moment → Bool
 allKept [] = true
 allKept (m ∷ ms) = eqb (m .was .level) 1 && allKept ms
 
@@ -43,12 +43,12 @@ unfoldable calm : List Moment → Bool
 calm [] = true
 calm (m ∷ ms) = eqb (m .was .level) 1 && (not (isTarget (m .event)) && calm ms)
 
-under-way : (ms : List Moment) → allBound ms ≡ true → UnderWay ms
+pub under-way : (ms : List Moment) → allBound ms ≡ true → UnderWay ms
 unfolding allBound UnderWay
 under-way [] e = tt
 under-way (m ∷ ms) e = (λ t. and-left (m .is .bound) (allBound ms) e, under-way ms (and-right (m .is .bound) (allBound ms) e))
 
-kept-all : (ms : List Moment) → allKept ms ≡ true → Keeps 1 ms
+pub kept-all : (ms : List Moment) → allKept ms ≡ true → Keeps 1 ms
 unfolding allKept Keeps
 kept-all [] e = tt
 kept-all (m ∷ ms) e = (eqb-true (m .was .level) 1 (and-left (eqb (m .was .level) 1) (allKept ms) e), kept-all ms (and-right (eqb (m .was .level) 1) (allKept ms) e))
@@ -73,7 +73,7 @@ record Computed : Type 0 where
   ticks : ticksIn (momentsNow history) ≡ 700
 
 computed : Computed
-unfolding isMatched isWanted wanted asksOf ticked slotLevel begins found highest chosen slots.served withSlots priority slotServed matches serviceIn quickGood withWords withReg withTimers withPins withChannel each all any cfsrOf hsrrOf cprOf reg function request withRequest status withStatus withPin channel withInitialised withSetUp withLevel withPhase withBinding kindIn word withWord exists channelControl pinControl position target modCount nextRate top last cntl0 cntl1 size motorOf stepping reaches isBound pinOut pinsOut nextCount turnedOnce prepared matchSet stepped outcome matchOf matched initialise stepRequest requestServed matchServed served clocked tick afterTicks place isPlace inList isFree isStepper isTimed mayInitialise otherwiseZero spanGood isReady groupReady showsPattern patternGood rampGood targetGood advanceGood requested askInitialise askStep askChannel andThen askChannels verdictOf keepsOrFree askRegister askWord askPlace gate requestedOne stored done answeredBy writeOf advanceOf actsOf acts does through Typed priorityOf see isTaken isTargetOf isStepOf eventOf moments inTicks longestStep ask since due later timeBy onward ticksACount ticksUntil sameTimer field withField bitOf rotatedRight rotatedLeft period ahead accelerates choice test turn onRequest onMatch beside bound stopPlace distance movesOf movesIn latest stopOf stepsOf ticksOf ticksIn isTarget setUp onTheWay after history allBound allKept calm seen-after allWords
+unfolding isMatched isWanted wanted asksOf ticked slotLevel begins found highest chosen slots.served withSlots priority slotServed matches serviceIn quickGood withWords withReg withTimers withPins withChannel each all any cfsrOf hsrrOf cprOf reg function request withRequest status withStatus withPin channel withInitialised withSetUp withLevel withPhase withBinding withLate kindIn word withWord exists channelControl pinControl position target modCount nextRate top last cntl0 cntl1 size motorOf stepping reaches isBound pinOut pinsOut nextCount turnedOnce prepared matchSet stepped outcome matchOf matched initialise stepRequest requestServed matchServed served clocked tick afterTicks place isWritten inList isFree isStepper isTimed mayInitialise otherwiseZero spanGood isReady groupReady showsPattern patternGood rampGood targetGood advanceGood requested askInitialise askStep askChannel andThen askChannels verdictOf keepsOrFree askRegister askWord askPlace gate requestedOne stored done answeredBy writeOf advanceOf actsOf acts does through Typed priorityOf see isTaken isTargetOf isStepOf eventOf moments inTicks longestStep ask since due later timeBy onward ticksACount ticksUntil sameTimer field withField bitOf rotatedRight rotatedLeft period ahead accelerates choice test turn onRequest onMatch beside bound stopPlace distance movesOf movesIn latest stopOf stepsOf ticksOf ticksIn isTarget setUp onTheWay after history allBound allKept calm seen-after allWords
 computed =
     record {
       words = refl;

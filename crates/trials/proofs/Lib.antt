@@ -2,3 +2,4 @@ pub mod Leaps
 pub mod Trials
 pub mod History
 pub mod Winder
+pub mod AtOnce

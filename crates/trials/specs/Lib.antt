@@ -1,3 +1,4 @@
 pub mod Trials
 pub mod History
 pub mod Winder
+pub mod AtOnce

@@ -1,10 +1,10 @@
 -- The short runs from reset, computed: `rows`.
 use mathlib.Core.Path.{refl}
-use Rattle.unit.specs.TheUnit.{withWords, withReg, withTimers, withPins, withChannel, each, all, any, cfsrOf, hsrrOf, cprOf, reg, function, request, withSlots, withRequest, priority, status, withStatus, withPin, channel, withInitialised, withSetUp, withLevel, withPhase, withBinding, kindIn, word, withWord, exists, channelControl, pinControl, position, target, modCount, nextRate, top, last, cntl0, cntl1, size, motorOf, stepping, reaches, isBound}
+use Rattle.unit.specs.TheUnit.{withWords, withReg, withTimers, withPins, withChannel, each, all, any, cfsrOf, hsrrOf, cprOf, reg, function, request, withSlots, withRequest, priority, status, withStatus, withPin, channel, withInitialised, withSetUp, withLevel, withPhase, withBinding, withLate, kindIn, word, withWord, exists, channelControl, pinControl, position, target, modCount, nextRate, top, last, cntl0, cntl1, size, motorOf, stepping, reaches, isBound}
 use Rattle.unit.specs.Stepping.{pinOut, pinsOut, nextCount, turnedOnce, prepared, matchSet, stepped, outcome}
 use Rattle.unit.specs.OneTick.{matchOf, matched, initialise, stepRequest, requestServed, matchServed, served, slotServed, clocked, matches, serviceIn, tick, afterTicks}
-use Rattle.unit.specs.Gate.{place, isPlace, inList, isFree, isStepper, isTimed, mayInitialise, otherwiseZero, spanGood, isReady, groupReady, showsPattern, patternGood, rampGood, quickGood, targetGood, advanceGood, requested, askInitialise, askStep, askChannel, andThen, askChannels, verdictOf, keepsOrFree, askRegister, askWord, askPlace, gate, requestedOne, stored, done}
-use Rattle.unit.specs.Calls.{pinWords, answeredBy, writeOf, advanceOf, after, run}
+use Rattle.unit.specs.Gate.{place, isPlace, isWritten, inList, isFree, isStepper, isTimed, mayInitialise, otherwiseZero, spanGood, isReady, groupReady, showsPattern, patternGood, rampGood, quickGood, targetGood, advanceGood, requested, askInitialise, askStep, askChannel, andThen, askChannels, verdictOf, keepsOrFree, askRegister, askWord, askPlace, gate, requestedOne, stored, done}
+use Rattle.unit.specs.Calls.{pinWords, wordAt, readOf, answeredBy, writeOf, advanceOf, after, run}
 use Rattle.words.specs.Choice.{ask}
 use Rattle.words.specs.Clock.{since, due, later, timeBy, onward, ticksACount, ticksUntil, sameTimer}
 use Rattle.words.specs.Field.{field, withField, bitOf}
@@ -13,13 +13,13 @@ use Rattle.slots.specs.Slots.{ticked, slotLevel, begins, found, highest, chosen
 use Rattle.slots.specs.Slots as slots
 use Rattle.motor.specs.Stepping.{period, ahead, accelerates, choice, test, turn, onRequest, onMatch, beside}
 use Rattle.motor.specs.Group.{bound}
-use Rattle.unit.specs.Answers.{verdictNumber}
+use Rattle.unit.specs.Answers.{readingNumber, readingWord, verdictNumber}
 use Rattle.unit.specs.Pending.{isMatched, isWanted, wanted, asksOf}
 use Rattle.unit.specs.Quiet.{untilDue, waits, quietAt, quietBelow}
-use Rattle.unit.specs.Rows.{readyBy, ready, goes, winds, shows, refuses, kinds, firstStep, waiting, pair, Rows}
+use Rattle.unit.specs.Rows.{readyBy, ready, goes, winds, shows, refuses, kinds, firstStep, waiting, pair, tells, Rows}
 
 pub rows : Rows
-unfolding withWords withReg withTimers withPins withChannel each all any cfsrOf hsrrOf cprOf reg function request withSlots withRequest priority status withStatus withPin channel withInitialised withSetUp withLevel withPhase withBinding kindIn word withWord exists channelControl pinControl position target modCount nextRate top last cntl0 cntl1 size motorOf stepping reaches isBound pinOut pinsOut nextCount turnedOnce prepared matchSet stepped outcome matchOf matched initialise stepRequest requestServed matchServed served slotServed clocked matches serviceIn tick afterTicks place isPlace inList isFree isStepper isTimed mayInitialise otherwiseZero spanGood isReady groupReady showsPattern patternGood rampGood quickGood targetGood advanceGood requested askInitialise askStep askChannel andThen askChannels verdictOf keepsOrFree askRegister askWord askPlace gate requestedOne stored done answeredBy writeOf advanceOf after run ask since due later timeBy onward ticksACount ticksUntil sameTimer field withField bitOf rotatedRight rotatedLeft period ahead accelerates choice test turn onRequest onMatch beside bound goes winds kinds verdictNumber refuses shows readyBy ready pinWords firstStep isMatched isWanted wanted asksOf untilDue waits quietAt quietBelow ticked slotLevel begins found highest chosen slots.served waiting pair
+unfolding withWords withReg withTimers withPins withChannel each all any cfsrOf hsrrOf cprOf reg function request withSlots withRequest priority status withStatus withPin channel withInitialised withSetUp withLevel withPhase withBinding withLate kindIn word withWord exists channelControl pinControl position target modCount nextRate top last cntl0 cntl1 size motorOf stepping reaches isBound pinOut pinsOut nextCount turnedOnce prepared matchSet stepped outcome matchOf matched initialise stepRequest requestServed matchServed served slotServed clocked matches serviceIn tick afterTicks place isPlace isWritten inList isFree isStepper isTimed mayInitialise otherwiseZero spanGood isReady groupReady showsPattern patternGood rampGood quickGood targetGood advanceGood requested askInitialise askStep askChannel andThen askChannels verdictOf keepsOrFree askRegister askWord askPlace gate requestedOne stored done answeredBy writeOf advanceOf after run ask since due later timeBy onward ticksACount ticksUntil sameTimer field withField bitOf rotatedRight rotatedLeft period ahead accelerates choice test turn onRequest onMatch beside bound goes winds kinds verdictNumber refuses shows readyBy ready pinWords firstStep isMatched isWanted wanted asksOf untilDue waits quietAt quietBelow ticked slotLevel begins found highest chosen slots.served waiting pair wordAt readOf readingNumber readingWord tells
 rows =
     record {
       row-right = (refl, refl, refl, refl, refl, refl);
@@ -47,6 +47,11 @@ rows =
       row-priorities = (refl, refl, refl, refl);
       row-one-a-tick = (refl, refl, refl, refl, refl);
       row-pair = (refl, refl, refl, refl);
+      row-late = (refl, refl, refl, refl, refl, refl);
+      row-late-pair = (refl, refl, refl);
+      row-late-move = (refl, refl, refl);
+      row-late-slow = refl;
+      row-late-read-only = (refl, refl, refl, refl, refl, refl, refl);
       row-word = (refl, refl, refl);
       row-writes = (refl, refl, refl);
     }

@@ -17,13 +17,13 @@ use Rattle.words.proofs.FieldLaws.{field-lt, bit-and, words-equal}
 use Rattle.unit.specs.declared.State.{State}
 use Rattle.unit.specs.declared.Reading.the-variants.{Word, Refused}
 use Rattle.unit.specs.declared.Place.{Place}
-use Rattle.unit.specs.declared.Place.the-variants.{AtRegister, AtWord, Nowhere}
+use Rattle.unit.specs.declared.Place.the-variants.{AtRegister, AtWord, AtLate, Nowhere}
 use Rattle.unit.specs.declared.Verdict.{Verdict}
 use Rattle.unit.specs.declared.Verdict.the-variants.{Refused as Stops}
-use Rattle.unit.specs.TheUnit.{withReg, withWords, withWord, withInitialised, withChannel, cisr, reg, word, exists, interruptLine, any, all, stepping}
+use Rattle.unit.specs.TheUnit.{idle, withReg, withWords, withWord, withInitialised, withChannel, channel, cisr, reg, word, exists, interruptLine, any, all, stepping}
 use Rattle.unit.specs.Gate.{place, isPlace, inList, isFree, keepsOrFree, targetGood, askRegister, askWord, askPlace, stored, done}
 use Rattle.unit.specs.Calls.{wordAt, readOf, answeredBy, writeOf, isTaken}
-use Rattle.unit.specs.Readings.{registerAddress, wordAddress, Listed, Exists, BothBits, Readings}
+use Rattle.unit.specs.Readings.{registerAddress, wordAddress, lateAddress, Listed, ReadOnly, Exists, BothBits, Readings}
 use Rattle.unit.proofs.Places.{gate-place}
 use Rattle.unit.proofs.Tests.{or-left, or-right, any-yes, any-some, Found}
 
@@ -43,18 +43,31 @@ word-place c i h l =
     let e : (0xf00 + (16 * c + 2 * i)) % 2 ≡ 0 = omega arith in
     let q : (0xf00 + (16 * c + 2 * i) - 0xf00) / 16 ≡ c = omega arith in
     let r : (0xf00 + (16 * c + 2 * i) - 0xf00) % 16 / 2 ≡ i = omega arith in
-    rw (e, fails (leb (0xf00 + (16 * c + 2 * i)) 0xe20) (λ t. omega (arith, tests)), le-leb 0xe0a (0xf00 + (16 * c + 2 * i)) (omega arith), le-leb 0xf00 (0xf00 + (16 * c + 2 * i)) (omega arith), le-leb (0xf00 + (16 * c + 2 * i)) 0xffe (omega arith), q, r)
+    rw (e, fails (leb (0xf00 + (16 * c + 2 * i)) 0xe20) (λ t. omega (arith, tests)), fails (leb (0xf00 + (16 * c + 2 * i)) 0xe5e) (λ t. omega (arith, tests)), le-leb 0xe0a (0xf00 + (16 * c + 2 * i)) (omega arith), le-leb 0xe40 (0xf00 + (16 * c + 2 * i)) (omega arith), le-leb 0xf00 (0xf00 + (16 * c + 2 * i)) (omega arith), le-leb (0xf00 + (16 * c + 2 * i)) 0xffe (omega arith), q, r)
 
-pub outside-place : (a : ℕ) → (Listed a → ⊥) → place a ≡ Nowhere
+pub late-place : (c : ℕ) → c < 16 → place (lateAddress c) ≡ AtLate c
 unfolding place
-outside-place a n =
-    pick-cases (λ p. p ≡ Nowhere) (eqb (a % 2) 0 && (leb 0xe0a a && leb a 0xe20))
-    (λ t. let u : (leb 0xe0a a && leb a 0xe20) ≡ true = and-right (eqb (a % 2) 0) _ t in
-    absurd (n (eqb-true (a % 2) 0 (and-left (eqb (a % 2) 0) _ t), inl (leb-true 0xe0a a (and-left (leb 0xe0a a) _ u), leb-true a 0xe20 (and-right (leb 0xe0a a) _ u)))))
-    (λ s. pick-cases (λ p. p ≡ Nowhere) (eqb (a % 2) 0 && (leb 0xf00 a && leb a 0xffe))
-    (λ t. let u : (leb 0xf00 a && leb a 0xffe) ≡ true = and-right (eqb (a % 2) 0) _ t in
-    absurd (n (eqb-true (a % 2) 0 (and-left (eqb (a % 2) 0) _ t), inr (leb-true 0xf00 a (and-left (leb 0xf00 a) _ u), leb-true a 0xffe (and-right (leb 0xf00 a) _ u)))))
-    (λ t. refl))
+late-place c h =
+    let e : (0xe40 + 2 * c) % 2 ≡ 0 = omega arith in
+    let q : (0xe40 + 2 * c - 0xe40) / 2 ≡ c = omega arith in
+    rw (e, fails (leb (0xe40 + 2 * c) 0xe20) (λ t. omega (arith, tests)), le-leb 0xe0a (0xe40 + 2 * c) (omega arith), le-leb 0xe40 (0xe40 + 2 * c) (omega arith), le-leb (0xe40 + 2 * c) 0xe5e (omega arith), q)
+
+-- an even address from here to there
+between : (a low high : ℕ) → (eqb (a % 2) 0 && (leb low a && leb a high)) ≡ true → (a % 2 ≡ 0) × (low ≤ a) × (a ≤ high)
+between a low high t =
+    let u : (leb low a && leb a high) ≡ true = and-right (eqb (a % 2) 0) _ t in
+    (eqb-true (a % 2) 0 (and-left (eqb (a % 2) 0) _ t), leb-true low a (and-left (leb low a) _ u), leb-true a high (and-right (leb low a) _ u))
+
+-- the place of an address that is not in document 01's list
+pub outside-place : (P : Place → Type 0) (a : ℕ) → (Listed a → ⊥) → (ReadOnly a → P (AtLate ((a - 0xe40) / 2))) → P Nowhere → P (place a)
+unfolding place
+outside-place P a n late nowhere =
+    pick-cases P (eqb (a % 2) 0 && (leb 0xe0a a && leb a 0xe20))
+    (λ t. let b = between a 0xe0a 0xe20 t in absurd (n (b .0, inl (b .1, b .2))))
+    (λ s. pick-cases P (eqb (a % 2) 0 && (leb 0xe40 a && leb a 0xe5e)) (λ t. late (between a 0xe40 0xe5e t))
+    (λ r. pick-cases P (eqb (a % 2) 0 && (leb 0xf00 a && leb a 0xffe))
+    (λ t. let b = between a 0xf00 0xffe t in absurd (n (b .0, inr (b .1, b .2))))
+    (λ t. nowhere)))
 
 -- ---- reads
 
@@ -82,9 +95,13 @@ reads-word : (s : State) (c i : ℕ) → c < 16 → i < 8 → Exists c i → rea
 unfolding isPlace wordAt word ask
 reads-word s c i h l e = read-at s (wordAddress c i) (AtWord c i) (word-place c i h l) ∙ ap (λ b. Word (pick b (getD (s .words) (8 * c + i) 0) 0)) (exists-yes c i e)
 
-reads-outside : (s : State) (a : ℕ) → (Listed a → ⊥) → readOf s a ≡ Refused 1
+reads-late : (s : State) (c : ℕ) → c < 16 → readOf s (lateAddress c) ≡ Word ((getD (s .channels) c idle) .late)
+unfolding isPlace wordAt channel ask
+reads-late s c h = read-at s (lateAddress c) (AtLate c) (late-place c h)
+
+reads-outside : (s : State) (a : ℕ) → (Listed a → ⊥) → (ReadOnly a → ⊥) → readOf s a ≡ Refused 1
 unfolding isPlace wordAt ask
-reads-outside s a n = read-at s a Nowhere (outside-place a n)
+reads-outside s a n r = read-at s a Nowhere (outside-place (λ p. p ≡ Nowhere) a n (λ x. absurd (r x)) refl)
 
 -- ---- writes
 
@@ -221,6 +238,7 @@ readings =
       register = reads-register;
       word = reads-word;
       missing = reads-missing;
+      late = reads-late;
       outside = reads-outside;
       word-written = λ s c i v w. word-written s c i v (w .words);
       register-written = λ s i v w. register-written s i v (w .regs);

@@ -19,13 +19,13 @@ use Rattle.unit.specs.declared.State.{State}
 use Rattle.unit.specs.declared.Deed.{Deed}
 use Rattle.unit.specs.declared.Deed.the-variants.{Register, Keep}
 use Rattle.unit.specs.declared.Verdict.the-variants.{Taken as Does, Refused as Stops}
-use Rattle.unit.specs.declared.Place.the-variants.{AtRegister, AtWord, Nowhere}
+use Rattle.unit.specs.declared.Place.the-variants.{AtRegister, AtWord}
 use Rattle.unit.specs.declared.Answer.the-variants.{Taken, Refused}
 use Rattle.unit.specs.declared.Answer.{Answer}
 use Rattle.unit.specs.declared.Answered.{Answered}
 use Rattle.unit.specs.OneTick.{afterTicks}
 use Rattle.unit.specs.TheUnit.{all, each, cisr, cfsrOf, hsrrOf, reg, function, request, channel, word, target, top, last, size, exists, stepping, isBound}
-use Rattle.unit.specs.Gate.{isFree, isStepper, spanGood, isReady, groupReady, targetGood, advanceGood, requested, Asked, Yes, No, askInitialise, askStep, askChannel, andThen, askChannels, verdictOf, keepsOrFree, askRegister, askWord, askPlace, requestedOne, done}
+use Rattle.unit.specs.Gate.{place, isFree, isStepper, spanGood, isReady, groupReady, targetGood, advanceGood, requested, Asked, Yes, No, askInitialise, askStep, askChannel, andThen, askChannels, verdictOf, keepsOrFree, askRegister, askWord, askPlace, requestedOne, done}
 use Rattle.unit.specs.Calls.{answeredBy, writeOf, isTaken, advanceOf}
 use Rattle.unit.specs.Readings.{registerAddress, wordAddress, Listed, Exists}
 use Rattle.unit.specs.Takes.{Free, Stepper, MayInitialise, MayStep, MayRepeat, AsksOne, Together, requestAddress, StepNumbers, InitialiseNumbers, Takes}
@@ -244,9 +244,11 @@ functions-good s i v a b f = all-all (keepsOrFree s v) 4 (4 * (4 - i)) (λ j x y
 
 -- ---- the numbers
 
-writes-outside : (s : State) (a v : ℕ) → (Listed a → ⊥) → (writeOf s a v) .answer ≡ Refused 1
+writes-outside : (s : State) (a v : ℕ) → (Listed a → ⊥) → writeOf s a v ≡ record { answer = Refused 1; state = s }
 unfolding askPlace answeredBy
-writes-outside s a v n = rw (write-at s a v Nowhere (outside-place a n)) refl
+writes-outside s a v n =
+    rw (write-at s a v (place a) refl)
+    (outside-place (λ p. answeredBy (askPlace s p v) s ≡ record { answer = Refused 1; state = s }) a n (λ r. refl) refl)
 
 -- a register of which only question 1 is asked
 plain-taken : (s : State) (i v : ℕ) → i < 12 → (leb 1 i && leb i 4) ≡ false → (leb 7 i && leb i 8) ≡ false → isTaken ((writeOf s (registerAddress i) v) .answer) ≡ true

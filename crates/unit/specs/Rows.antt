@@ -1,19 +1,21 @@
 -- Short runs of the definitions from reset, each with what it must show: a move right and left, tick by tick, one by TCR2, each number of
 -- the gate, each priority, and whom the slots go to. The figures of the two moves come from a model written apart from the definitions.
-use Prim.Native.Nat.{ℕ}
+use Prim.Native.Nat.{ℕ, _-_}
 use mathlib.Core.Bool.{true, false}
 use mathlib.Core.List.{List, [], _∷_, _++_}
 use mathlib.Core.Path.{_≡_}
 use lib.ListN.{replicate}
 use Rattle.motor.specs.declared.Way.the-variants.{Right}
-use Rattle.motor.specs.declared.Phase.the-variants.{Armed, Matched}
+use Rattle.motor.specs.declared.Phase.{Phase}
+use Rattle.motor.specs.declared.Phase.the-variants.{Resting, Armed, Matched}
 use Rattle.unit.specs.declared.State.{State}
-use Rattle.unit.specs.TheUnit.{resetState, cisr, withReg, withTimers, withPins, reg, withRequest, channel, withLevel, withPhase, word, withWord, position, target}
+use Rattle.unit.specs.TheUnit.{resetState, cisr, withReg, withTimers, withPins, reg, withRequest, channel, withLevel, withPhase, withLate, word, withWord, position, target}
 use Rattle.unit.specs.OneTick.{matched, tick, afterTicks}
 use Rattle.unit.specs.Quiet.{quietBelow}
 use Rattle.unit.specs.Gate.{advanceGood, requested, gate}
-use Rattle.unit.specs.Calls.{pinWords, Call, Write, Advance, writeOf, run}
-use Rattle.unit.specs.Answers.{verdictNumber}
+use Rattle.unit.specs.Calls.{pinWords, Call, Write, Advance, readOf, writeOf, run}
+use Rattle.unit.specs.Answers.{readingNumber, verdictNumber}
+use Rattle.unit.specs.Readings.{lateWord}
 
 -- channels 4 and 5 initialised with these CHANNEL_CONTROL and the patterns $8421 and $1234, N = 3, STEP_CNTL0 1 and this STEP_CNTL1, and
 -- the motor at rest: P(1) is STEP_CNTL1 - 2
@@ -56,6 +58,12 @@ unfoldable pub waiting : ℕ → ℕ → ℕ
 waiting cpr n =
     reg (afterTicks n (run resetState (Write 0xe10 0x00dd ∷ Write 0xe1e cpr ∷ Write 0xf40 0x0082 ∷ Write 0xf50 0x0082 ∷ Write 0xe1a 0x0a00 ∷ []))) 8
 
+-- The number of channel 4, at low, after a tick that brings TCR1 to this count and begins with the group of 4 to 5 in this phase. Its number
+-- was 7.
+unfoldable pub tells : Phase → ℕ → ℕ
+tells p count =
+    lateWord 4 (tick (withTimers (withLate (withPhase (withWord (withReg resetState 10 0x0100) 4 5 0x0105) 4 Right p) 4 7) record { tcr1 = count - 1; tcr2 = 0 }))
+
 -- groups 4 to 5 and 6 to 7 at low, both at their targets, with matches set for the next tick that take pins 4 and 6 high
 unfoldable pub pair : State
 pair =
@@ -95,7 +103,7 @@ pub record Rows : Type 0 where
   pub row-stored : shows (tick (withRequest (run resetState (ready 8 0 4)) 4 3)) ≡ 0x10 ∷ 1 ∷ 258 ∷ 0xc210 ∷ 0x91a ∷ 0x0 ∷ []
   -- a match beyond the wrap of TCR1 is not due before it
   pub row-wrap : ((channel (matched 4 (withTimers (withPhase resetState 4 Right (Armed 3)) record { tcr1 = 0xfffe; tcr2 = 0 })) 4) .phase ≡ Armed 3)
-      × ((channel (matched 4 (withTimers (withPhase resetState 4 Right (Armed 3)) record { tcr1 = 3; tcr2 = 0 })) 4) .phase ≡ Matched 3)
+      × ((channel (matched 4 (withTimers (withPhase resetState 4 Right (Armed 3)) record { tcr1 = 3; tcr2 = 0 })) 4) .phase ≡ Matched 3 3)
   -- a target put behind a fast motor: it slows down first
   pub row-behind : position (afterTicks 4 ((writeOf (afterTicks 12 (goes 0 9)) 0xf46 1) .state)) 4 ≡ 4
   -- question 1: an odd address, and one that is not in the list
@@ -137,6 +145,21 @@ pub record Rows : Type 0 where
   pub row-one-a-tick : (waiting 0x0500 0 ≡ 0x0a00) × (waiting 0x0500 1 ≡ 0x0800) × (waiting 0x0500 2 ≡ 0) × (waiting 0x0d00 1 ≡ 0x0200) × (waiting 0x0d00 2 ≡ 0)
   -- two matches of one tick both show on the pins at once; their services, here arrivals, come one after the other
   pub row-pair : ((tick pair) .pins ≡ 0x50) × (reg (tick pair) cisr ≡ 0x10) × ((afterTicks 2 pair) .pins ≡ 0x50) × (reg (afterTicks 2 pair) cisr ≡ 0x50)
+  -- how late a match service is (paper 02, #108): since the match time, not the captured one, $8000 and more too; a match that falls due in the
+  -- tick; and without one the number stays
+  pub row-late : (tells (Matched 5 2) 10 ≡ 8) × (tells (Matched 0x9000 2) 0x9001 ≡ 0x8fff) × (tells (Matched 0 3) 2 ≡ 0xffff) × (tells (Armed 10) 10 ≡ 0)
+      × (tells (Armed 11) 10 ≡ 7) × (tells Resting 10 ≡ 7)
+  -- of two matches of one tick the second to be served is one count late, and its number comes with its service
+  pub row-late-pair : (lateWord 4 (afterTicks 2 pair) ≡ 0) × (lateWord 6 (tick pair) ≡ 0) × (lateWord 6 (afterTicks 2 pair) ≡ 1)
+  -- the first service of a move, that of its request, leaves it; the next is of a match; and no channel beside it has one
+  pub row-late-move : (lateWord 4 (afterTicks 6 (withLate (goes 0 4) 4 7)) ≡ 7) × (lateWord 4 (afterTicks 7 (withLate (goes 0 4) 4 7)) ≡ 0)
+      × (lateWord 5 (afterTicks 7 (withLate (goes 0 4) 4 7)) ≡ 0)
+  -- in counts of TCR2, which rises in ticks 14, 22 and 30: priority 00 after tick 13, and 01 again after tick 33
+  pub row-late-slow : lateWord 4 (tick (withReg (afterTicks 20 (withReg (afterTicks 13 (winds 0 4)) 10 0)) 10 0x0500)) ≡ 2
+  -- read only, and none beside them
+  pub row-late-read-only : (refuses [] 0xe40 0 ≡ 1) × (refuses [] 0xe5e 0 ≡ 1) × (readingNumber (readOf resetState 0xe40) ≡ 0)
+      × (readingNumber (readOf resetState 0xe5e) ≡ 0) × (readingNumber (readOf resetState 0xe41) ≡ 1) × (readingNumber (readOf resetState 0xe3e) ≡ 1)
+      × (readingNumber (readOf resetState 0xe60) ≡ 1)
   -- in an HSRR word the lowest refused channel gives the number, and the lower ones count as taken: from the top the first would be 4
   pub row-word : (refuses [] 0xe1a 0x0b00 ≡ 2) × (refuses (Write 0xf50 0x0082 ∷ Write 0xe1a 0x0800 ∷ []) 0xe1a 0x0300 ≡ 6) × (refuses [] 0xe1a 0x0000 ≡ 0)
   -- a target taken under way is the one in memory, and a refused write changes nothing

@@ -158,9 +158,9 @@ pub record Takes : Type 0 where
   -- CIER, HSQR, CPR and CISR are always taken; so is a missing word, and nothing changes
   pub others : (s : State) (i v : ℕ) → ((i ≡ 0) ⊎ ((5 ≤ i) × (i ≤ 6))) ⊎ ((9 ≤ i) × (i ≤ 11)) → isTaken ((writeOf s (registerAddress i) v) .answer) ≡ true
   pub missing : (s : State) (c i v : ℕ) → c < 14 → 6 ≤ i → i < 8 → writeOf s (wordAddress c i) v ≡ record { answer = Taken; state = s }
-  -- the numbers else: 1 for an address that is not in the list, 2 for a word or a CFSR field of a channel that is not free, 3 for
-  -- a further request of another function
-  pub outside : (s : State) (a v : ℕ) → (Listed a → ⊥) → (writeOf s a v) .answer ≡ Refused 1
+  -- the numbers else: 1 for an address that is not in document 01's list, where it may be read too (paper 02, #108), and nothing changes; 2 for
+  -- a word or a CFSR field of a channel that is not free, 3 for a further request of another function
+  pub outside : (s : State) (a v : ℕ) → (Listed a → ⊥) → writeOf s a v ≡ record { answer = Refused 1; state = s }
   pub word-number : (s : State) (c i v : ℕ) → c < 16 → i < 8 → Exists c i → (i ≡ 3 → stepping s c ≡ false) → (Free c s → ⊥)
       → (writeOf s (wordAddress c i) v) .answer ≡ Refused 2
   pub functions-number : (s : State) (i v j : ℕ) → 1 ≤ i → i ≤ 4 → j / 4 ≡ 4 - i → field 4 v (4 * (j % 4)) ≢ field 4 (reg s i) (4 * (j % 4)) → (Free j s → ⊥)

@@ -14,6 +14,7 @@ use Rattle.slots.proofs.Within.{one-service}
 use Rattle.slots.proofs.Computed as slots
 use Rattle.motor.proofs.Schedule.{schedules}
 use Rattle.history.proofs.Served.{served-within}
+use Rattle.history.proofs.Late.{how-late}
 use Rattle.history.proofs.Timers.{timers-count}
 use Rattle.history.proofs.Leaves.{writes-leave}
 use Rattle.history.proofs.Always.{always}
@@ -25,6 +26,7 @@ use Rattle.moves.proofs.Trap.{trap}
 use Rattle.trials.proofs.Trials.{trials}
 use Rattle.trials.proofs.History.{met}
 use Rattle.trials.proofs.Winder.{winds}
+use Rattle.trials.proofs.AtOnce.{at-once}
 use Rattle.text.proofs.LengthLaws.{decimal-short}
 use Rattle.parse.proofs.LineLaws as parse
 use Rattle.script.proofs.LengthLaws as script
@@ -128,6 +130,7 @@ returns c =
       two-frames = two-frames;
       two-timers = record { count = timers-count; winds = winds };
       one-service = one-at-a-time;
+      lateness = record { how-late = how-late; at-once = at-once };
     }
 
 pub delivered-spec : {M : Type 1} → statement M

@@ -16,7 +16,7 @@ returns : tie.Need-returns
 unfolding laid isWhole
 returns c =
     let b = c .before .before .before .before .before .before in (
-      rw (eq-eqb _ 179 (c .before .before .before .before .if1 .taken)) (c .before .before .lay .ensures),
+      rw (eq-eqb _ 211 (c .before .before .before .before .if1 .taken)) (c .before .before .lay .ensures),
       back-owned _ (b .args .st) (search needs) (search needs) (b .good .0 .1 .1 .1 .1 .1 .1 .0 .1 .0 .1),
     )
 
@@ -24,7 +24,7 @@ returns-2 : tie.Need-returns-2
 unfolding laid isWhole
 returns-2 c =
     let b = c .before .before in
-    (rw (ne-eqb _ 179 (c .if1 .left)) refl, back-owned _ (b .args .st) (search needs) (search needs) (b .good .0 .1 .1 .1 .1 .1 .1 .0 .1 .0 .1))
+    (rw (ne-eqb _ 211 (c .if1 .left)) refl, back-owned _ (b .args .st) (search needs) (search needs) (b .good .0 .1 .1 .1 .1 .1 .1 .0 .1 .0 .1))
 
 pub pack-spec : {M : Type 1} → statement M
 pack-spec = tie.close (tie.spec lay-requires same-length returns returns-2)

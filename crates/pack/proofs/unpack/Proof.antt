@@ -9,14 +9,14 @@ state-in-requires c κs = search needs
 
 returns : tie.Need-returns
 unfolding unpacked isWhole
-returns c = rw (eq-eqb _ 179 (c .before .if1 .taken)) (c .state-in .ensures)
+returns c = rw (eq-eqb _ 211 (c .before .if1 .taken)) (c .state-in .ensures)
 
 reset-requires : tie.Need-reset-requires
 reset-requires c κs = search needs
 
 returns-2 : tie.Need-returns-2
 unfolding unpacked isWhole
-returns-2 c = rw (ne-eqb _ 179 (c .before .if1 .left)) (c .reset .ensures)
+returns-2 c = rw (ne-eqb _ 211 (c .before .if1 .left)) (c .reset .ensures)
 
 pub unpack-spec : {M : Type 1} → statement M
 unpack-spec = tie.close (tie.spec state-in-requires returns reset-requires returns-2)

@@ -4,10 +4,10 @@ use mathlib.Core.Logic.{⊎-elim}
 use lib.ListN.{length}
 use Rattle.words.specs.Clock.{timeBy}
 use Rattle.words.proofs.ChoiceLaws.{takes-first, takes-second}
-use Rattle.unit.specs.TheUnit.{request, reg, channel, timeFor, motorOf}
-use Rattle.unit.specs.Stepping.{outcome}
-use Rattle.channel.specs.Service.{isTested, reference, decided}
-use Rattle.tick.proofs.PartLaws.{test-parts, same-way, same-timer, first, served-by}
+use Rattle.unit.specs.TheUnit.{withChannel, request, reg, channel, timeFor}
+use Rattle.channel.specs.Record.{toldIn}
+use Rattle.channel.specs.Service.{isTested}
+use Rattle.tick.proofs.PartLaws.{test-parts, same-way, same-timer, told-way, told-time, told, tested, first, served-by}
 use borrow.Author.Needs.{needs}
 use borrow.Author.Tests.{le-leb, lt-leb}
 use Rattle.tick.proofs.serve.Statement.{statement}
@@ -28,25 +28,42 @@ done-requires c κs = search needs
 is-tested-requires : tie.Need-is-tested-requires
 is-tested-requires c κs = search needs
 
-element-copy-out-status : tie.Need-element-copy-out-status
-element-copy-out-status c = search needs
-
 time-by-requires : tie.Need-time-by-requires
 time-by-requires c κs = search needs
 
+mul-told : tie.Need-mul-told
+mul-told c = search needs
+
+element-copy-out-told : tie.Need-element-copy-out-told
+element-copy-out-told c = search needs
+
+told-requires : tie.Need-told-requires
+told-requires c κs = search needs
+
+mul-t32 : tie.Need-mul-t32
+mul-t32 c = search needs
+
+element-set-from-s : tie.Need-element-set-from-s
+element-set-from-s c = search needs
+
+element-copy-out-status : tie.Need-element-copy-out-status
+element-copy-out-status c = search needs
+
 tested-requires : tie.Need-tested-requires
 tested-requires c κs =
-    let j = c .before .before .before .before .before .before .before .if1 in
+    let j = c .before .before .before .before .before .before .before .before .before .if1 in
     (search needs, ⊎-elim {C = length (j .s .words) ≡ 128} (λ w. rw (w .2) (search needs)) (λ w. rw (w .1) (search needs)) (j .came))
 
 element-write-s : tie.Need-element-write-s
 element-write-s c = search needs
 
 returns : tie.Need-returns
-unfolding request reg channel
+unfolding request reg channel withChannel
 returns c =
-    let tested = c .before .before .before .before .before .before .before in
-    let j = tested .before .before in
+    let from = c .before .before .before .before .before in
+    let now = from .before .before .time-by in
+    let begun = from .before .before .before .before in
+    let j = begun .before .before in
     let a = j .before .before .before .before .before .args in
     let s = a .t1 in
     let k = a .c in
@@ -58,13 +75,13 @@ returns c =
     (λ w. rw (le-leb 2 (r .result) (w .0 .taken)) (w .2 ∙ w .1 .ensures))
     (λ w. rw (lt-leb 2 (r .result) (w .0 .left)) (w .1))
     (j .if1 .came) in
-    let now = c .before .before .before .time-by in
+    let u = told p k t in
+    let e : now .result ≡ timeFor t k = now .ensures ∙ ap (λ x. timeBy x (t .timers)) (same-timer (r .result) k s t request) in
+    let record-then : from .told .result ≡ toldIn p (timeFor t k) (channel t k) = from .told .ensures ∙ ap (λ n. toldIn p n (channel t k)) e in
     served-by s t _ k (r .result) (r .ensures) request
-    (takes-first (isTested (r .result) p) _ _ (outcome t k (reference p (timeFor t k)) (decided p (motorOf t k))) t
-    (tested .before .is-tested .ensures) (tested .if2 .taken)
-    (rw (c .before .tested .ensures .1, c .before .tested .ensures .0)
-    (test-parts t k (channel s k) (now .result) (same-way (r .result) k s t request)
-    (now .ensures ∙ ap (λ x. timeBy x (t .timers)) (same-timer (r .result) k s t request)))))
+    (takes-first (isTested (r .result) p) _ _ (tested p k u) t (begun .before .is-tested .ensures) (begun .if2 .taken)
+    (rw (c .before .tested .ensures .1, c .before .tested .ensures .0, record-then)
+    (test-parts u k (channel s k) (now .result) (same-way (r .result) k s t request ∙ told-way p k t) (e ∙ told-time p k t))))
 
 returns-2 : tie.Need-returns-2
 unfolding request reg channel
@@ -82,7 +99,7 @@ returns-2 c =
     (λ w. rw (lt-leb 2 (r .result) (w .0 .left)) (w .1))
     (j .if1 .came) in
     served-by s t t k (r .result) (r .ensures) request
-    (takes-second (isTested (r .result) p) _ t (outcome t k (reference p (timeFor t k)) (decided p (motorOf t k))) t
+    (takes-second (isTested (r .result) p) _ t (tested p k (told p k t)) t
     (c .before .is-tested .ensures) (c .if2 .left) refl)
 
 pub serve-spec : {M : Type 1} → statement M
@@ -94,8 +111,13 @@ serve-spec =
     pending-requires
     done-requires
     is-tested-requires
-    element-copy-out-status
     time-by-requires
+    mul-told
+    element-copy-out-told
+    told-requires
+    mul-t32
+    element-set-from-s
+    element-copy-out-status
     tested-requires
     element-write-s
     returns

@@ -13,7 +13,7 @@ use Rattle.tpu_c.proofs.tpu_sm_advance.Tie as tie
 returns : tie.Need-returns
 unfolding advanceAnswer advanceWords advanceState advancePins isWhole
 returns c =
-    let e = ne-eqb _ 179 (c .if1 .taken) in
+    let e = ne-eqb _ 211 (c .if1 .taken) in
     (rw (e) refl, rw (e) refl, rw (e) refl, rw (e) refl)
 
 unpack-requires : tie.Need-unpack-requires
@@ -38,7 +38,7 @@ returns-2 c =
     let a = f .before .before .before .before in
     let u = a .before .before in
     let given = u .before .before .before .before .before .args in
-    let e = eq-eqb _ 179 (u .before .before .if1 .left) in
+    let e = eq-eqb _ 211 (u .before .before .if1 .left) in
     let r = a .advance .ensures .0 ∙ ap (λ (x : State). advanceOf x (given .n) (now (given .pins))) (u .unpack .ensures) in
     let pins = a .advance .ensures .1 ∙ ap (λ (x : State). lentAfter x (given .n) (now (given .pins))) (u .unpack .ensures) in
     let last = f .finish .ensures .1 in

@@ -8,7 +8,7 @@ use Rattle.tpu_c.proofs.tpu_sm_interrupt_line.Tie as tie
 
 returns : tie.Need-returns
 unfolding lineAnswer isWhole
-returns c = rw (ne-eqb _ 179 (c .if1 .taken)) refl
+returns c = rw (ne-eqb _ 211 (c .if1 .taken)) refl
 
 unpack-requires : tie.Need-unpack-requires
 unpack-requires c κs = search needs
@@ -22,7 +22,7 @@ bit-number-requires c κs = search needs
 returns-2 : tie.Need-returns-2
 unfolding lineAnswer isWhole
 returns-2 c =
-    rw (c .bit-number .ensures, c .before .interrupt-line .ensures, c .before .before .unpack .ensures, eq-eqb _ 179 (c .before .before .before .if1 .left)) refl
+    rw (c .bit-number .ensures, c .before .interrupt-line .ensures, c .before .before .unpack .ensures, eq-eqb _ 211 (c .before .before .before .if1 .left)) refl
 
 pub tpu-sm-interrupt-line-spec : {M : Type 1} → statement M
 tpu-sm-interrupt-line-spec =

@@ -18,7 +18,7 @@ mul-result c = search needs
 returns : tie.Need-returns
 unfolding readAnswer readWord joined isWhole
 returns c =
-    let e = ne-eqb _ 179 (c .if1 .taken) in
+    let e = ne-eqb _ 211 (c .if1 .taken) in
     (rw (e) refl, rw (e) (omega arith))
 
 unpack-requires : tie.Need-unpack-requires
@@ -34,7 +34,7 @@ returns-2 : tie.Need-returns-2
 unfolding readAnswer readWord isWhole
 returns-2 c =
     let u = c .before .before in
-    let e = eq-eqb _ 179 (u .before .if1 .left) in
+    let e = eq-eqb _ 211 (u .before .if1 .left) in
     let r = c .before .read .ensures .0 ∙ ap (λ (x : State). readOf x (u .before .before .before .args .address)) (u .unpack .ensures) in
     (rw (e, ← r) (c .both-halves .ensures .0), rw (e, ← r) (c .both-halves .ensures .1))
 

@@ -12,7 +12,7 @@ use Rattle.tpu_c.proofs.tpu_sm_reset.Tie as tie
 returns : tie.Need-returns
 unfolding resetAnswer laid isWhole
 returns c =
-    let e = ne-eqb _ 179 (c .if1 .taken) in
+    let e = ne-eqb _ 211 (c .if1 .taken) in
     (rw (e) refl, rw (e) refl, reset-zeros)
 
 reset-requires : tie.Need-reset-requires
@@ -30,7 +30,7 @@ returns-2 c =
     let p = c .before .before in
     let r = p .before .before in
     let s = now (r .before .before .before .args .state) in
-    (rw (eq-eqb _ 179 (r .before .if1 .left)) refl, p .pack .ensures .0 ∙ ap (λ (x : State). laid x s) (r .reset .ensures), reset-zeros)
+    (rw (eq-eqb _ 211 (r .before .if1 .left)) refl, p .pack .ensures .0 ∙ ap (λ (x : State). laid x s) (r .reset .ensures), reset-zeros)
 
 pub tpu-sm-reset-spec : {M : Type 1} → statement M
 tpu-sm-reset-spec = tie.close (tie.spec returns reset-requires pack-requires same-length returns-2)

@@ -13,7 +13,7 @@ use Rattle.tpu_c.proofs.tpu_sm_write.Tie as tie
 returns : tie.Need-returns
 unfolding writeAnswer writeWords writeState isWhole
 returns c =
-    let e = ne-eqb _ 179 (c .if1 .taken) in
+    let e = ne-eqb _ 211 (c .if1 .taken) in
     (rw (e) refl, rw (e) refl, rw (e) refl)
 
 unpack-requires : tie.Need-unpack-requires
@@ -35,7 +35,7 @@ returns-2 c =
     let w = f .before .before in
     let u = w .before in
     let given = u .before .before .before .before .args in
-    let e = eq-eqb _ 179 (u .before .before .if1 .left) in
+    let e = eq-eqb _ 211 (u .before .before .if1 .left) in
     let r = w .write .ensures .0 ∙ ap (λ (x : State). writeOf x (given .address) (given .value)) (u .unpack .ensures) in
     let last = f .finish .ensures .1 in
     (rw (e, ← r) (f .finish .ensures .0), rw (e, ← r) last, rw (e, last) (held-by _ _ _ r (f .finish .ensures .2) (write-kept _ _ _)))

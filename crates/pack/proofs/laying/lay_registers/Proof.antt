@@ -10,7 +10,7 @@ use Rattle.pack.proofs.laying.lay_registers.Statement.{statement}
 use Rattle.pack.proofs.laying.lay_registers.Tie as tie
 
 abbrev Inv-loop : tie.InvT-loop
-Inv-loop s₀ st i₀ s i = (128 ≤ i) × (i ≤ 140) × (length s ≡ 179) × (take i s ≡ tabulate i (packedWord st))
+Inv-loop s₀ st i₀ s i = (128 ≤ i) × (i ≤ 140) × (length s ≡ 211) × (take i s ≡ tabulate i (packedWord st))
 
 abbrev μ-loop : tie.MeasureT-loop
 μ-loop s₀ st i₀ s i = 140 - i

@@ -1,8 +1,8 @@
 use native.Mathlib.Omega.{arith}
 use denote.Ref.{now}
 use lib.ListN.{set, length-set}
-use Rattle.pack.specs.Packing.{packedWord, packed}
-use Rattle.pack.proofs.Tabled.{next, whole}
+use Rattle.pack.specs.Packing.{packedWord}
+use Rattle.pack.proofs.Tabled.{next}
 use Rattle.pack.proofs.Parts.{at-slot, at-high, at-middle, at-low}
 use borrow.Author.Needs.{needs}
 use Rattle.pack.proofs.laying.lay_slots.Statement.{statement}
@@ -24,7 +24,6 @@ same-length : tie.Need-same-length
 same-length c = search needs
 
 returns : tie.Need-returns
-unfolding packed
 returns c =
     let st = c .args .st in
     let s = now (c .args .s) in
@@ -34,7 +33,7 @@ returns c =
     let a = next (packedWord st) s 175 _ (omega arith) (c .pre .1) (at-slot st) in
     let b = next (packedWord st) t 176 _ (rw length-set (omega arith)) a (at-high st) in
     let d = next (packedWord st) u 177 _ (rw (length-set, length-set) (omega arith)) b (at-middle st) in
-    whole _ _ 179 (simp length-set (c .pre .0)) (next (packedWord st) v 178 _ (rw (length-set, length-set, length-set) (omega arith)) d (at-low st))
+    (simp length-set (c .pre .0), next (packedWord st) v 178 _ (rw (length-set, length-set, length-set) (omega arith)) d (at-low st))
 
 pub lay-slots-spec : {M : Type 1} → statement M
 lay-slots-spec = tie.close (tie.spec slice-write-s slice-write-s-2 slice-write-s-3 slice-write-s-4 same-length returns)

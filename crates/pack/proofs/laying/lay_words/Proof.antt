@@ -10,7 +10,7 @@ use Rattle.pack.proofs.laying.lay_words.Statement.{statement}
 use Rattle.pack.proofs.laying.lay_words.Tie as tie
 
 abbrev Inv-loop : tie.InvT-loop
-Inv-loop s₀ st i₀ s i = (i ≤ 128) × (length s ≡ 179) × (take i s ≡ tabulate i (packedWord st))
+Inv-loop s₀ st i₀ s i = (i ≤ 128) × (length s ≡ 211) × (take i s ≡ tabulate i (packedWord st))
 
 abbrev μ-loop : tie.MeasureT-loop
 μ-loop s₀ st i₀ s i = 128 - i

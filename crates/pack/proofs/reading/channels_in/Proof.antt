@@ -9,7 +9,7 @@ use Rattle.pack.proofs.reading.channels_in.Statement.{statement}
 use Rattle.pack.proofs.reading.channels_in.Tie as tie
 
 abbrev Inv-loop : tie.InvT-loop
-Inv-loop s w₀ i₀ w i = (i ≤ 16) × (length s ≡ 179) × (length w ≡ 16) × (take i w ≡ tabulate i (channelIn s))
+Inv-loop s w₀ i₀ w i = (i ≤ 16) × (length s ≡ 211) × (length w ≡ 16) × (take i w ≡ tabulate i (channelIn s))
 
 abbrev μ-loop : tie.MeasureT-loop
 μ-loop s w₀ i₀ w i = 16 - i
@@ -36,6 +36,24 @@ mul-channel-from-2 c = omega arith
 shared-slice-read-channel-from-2 : tie.Need-shared-slice-read-channel-from-2 Inv-loop μ-loop
 shared-slice-read-channel-from-2 c = omega arith
 
+add-channel-from-3 : tie.Need-add-channel-from-3 Inv-loop μ-loop
+add-channel-from-3 c = omega arith
+
+mul-channel-from-3 : tie.Need-mul-channel-from-3 Inv-loop μ-loop
+mul-channel-from-3 c = omega arith
+
+shared-slice-read-channel-from-3 : tie.Need-shared-slice-read-channel-from-3 Inv-loop μ-loop
+shared-slice-read-channel-from-3 c = omega arith
+
+add-channel-from-4 : tie.Need-add-channel-from-4 Inv-loop μ-loop
+add-channel-from-4 c = omega arith
+
+mul-channel-from-4 : tie.Need-mul-channel-from-4 Inv-loop μ-loop
+mul-channel-from-4 c = omega arith
+
+shared-slice-read-channel-from-4 : tie.Need-shared-slice-read-channel-from-4 Inv-loop μ-loop
+shared-slice-read-channel-from-4 c = omega arith
+
 channel-from-requires : tie.Need-channel-from-requires Inv-loop μ-loop
 channel-from-requires c κs = search needs
 
@@ -53,7 +71,7 @@ loop-less c = omega arith
 
 loop-again : tie.Need-loop-again Inv-loop μ-loop
 loop-again c =
-    let l = c .before .before .before .before .loop in
+    let l = c .before .before .before .before .before .before .loop in
     let h : l .i < length (l .w) = omega arith in
     (omega arith, l .inv .1, simp length-set (l .inv .2), next _ (l .w) (l .i) _ h (l .inv .3) (c .channel-from .ensures))
 
@@ -76,6 +94,12 @@ channels-in-spec =
     add-channel-from-2
     mul-channel-from-2
     shared-slice-read-channel-from-2
+    add-channel-from-3
+    mul-channel-from-3
+    shared-slice-read-channel-from-3
+    add-channel-from-4
+    mul-channel-from-4
+    shared-slice-read-channel-from-4
     channel-from-requires
     mul-w
     array-set-from-w

@@ -9,7 +9,7 @@ use Rattle.pack.proofs.reading.regs_in.Statement.{statement}
 use Rattle.pack.proofs.reading.regs_in.Tie as tie
 
 abbrev Inv-loop : tie.InvT-loop
-Inv-loop s w₀ i₀ w i = (i ≤ 12) × (length s ≡ 179) × (length w ≡ 12) × (take i w ≡ tabulate i (regIn s))
+Inv-loop s w₀ i₀ w i = (i ≤ 12) × (length s ≡ 211) × (length w ≡ 12) × (take i w ≡ tabulate i (regIn s))
 
 abbrev μ-loop : tie.MeasureT-loop
 μ-loop s w₀ i₀ w i = 12 - i

@@ -9,7 +9,7 @@ use Rattle.pack.proofs.reading.words_in.Statement.{statement}
 use Rattle.pack.proofs.reading.words_in.Tie as tie
 
 abbrev Inv-loop : tie.InvT-loop
-Inv-loop s w₀ i₀ w i = (i ≤ 128) × (length s ≡ 179) × (length w ≡ 128) × (take i w ≡ tabulate i (wordIn s))
+Inv-loop s w₀ i₀ w i = (i ≤ 128) × (length s ≡ 211) × (length w ≡ 128) × (take i w ≡ tabulate i (wordIn s))
 
 abbrev μ-loop : tie.MeasureT-loop
 μ-loop s w₀ i₀ w i = 128 - i
