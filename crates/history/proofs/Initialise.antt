@@ -12,22 +12,19 @@ use Rattle.words.specs.Field.{field}
 use Rattle.words.proofs.ChoiceLaws.{pick-cases, not-both}
 use Rattle.words.proofs.FieldLaws.{field-lt}
 use Rattle.slots.specs.declared.Slots.{Slots}
-use Rattle.slots.specs.declared.Service.{Service}
-use Rattle.slots.specs.declared.Service.the-variants.{Of, Nobody}
-use Rattle.slots.specs.Claims.{goesTo}
-use Rattle.motor.specs.declared.Phase.{Phase}
-use Rattle.motor.specs.declared.Phase.the-variants.{Resting, Requested, Armed, Matched}
+use Rattle.motor.specs.declared.Phase.the-variants.{Resting}
 use Rattle.motor.specs.declared.Outcome.{Outcome}
 use Rattle.motor.specs.declared.Outcome.the-variants.{Arrived, Step}
 use Rattle.unit.specs.declared.State.{State}
 use Rattle.unit.specs.TheUnit.{withTimers, hsrrOf, reg, request, withRequest, withSlots, status, withStatus, withPin, withPins, channel, withChannel, withSetUp, kindIn, withPhase, withLate, word, withWord, withWords, stepping, reaches, channelControl, pinControl}
-use Rattle.unit.specs.Stepping.{stepped, outcome}
-use Rattle.unit.specs.OneTick.{matched, initialise, stepRequest, requestServed, matchServed, served, slotServed, clocked, matches, serviceIn, tick}
+use Rattle.unit.specs.Stepping.{outcome}
+use Rattle.unit.specs.OneTick.{matched, initialise, requestServed, matchServed, served, clocked, matches, tick}
 use Rattle.unit.proofs.Reset.{Sized}
 use Rattle.unit.proofs.Passing.{left-each, left-step, left-matched}
 use Rattle.unit.proofs.Access.{sized-pin, sized-word, sized-channel, request-same, request-other, request-status, status-same, status-other, status-request}
-use Rattle.history.proofs.Frame.{Going, sized-request, sized-phase, sized-requestServed, sized-late}
-use Rattle.history.proofs.Alone.{Fades, request-initialise, fades-matches, fades-slots, served-small}
+use Rattle.history.proofs.TickWalk.{walk-served, walk-own}
+use Rattle.history.proofs.Frame.{Going, sized-request, sized-phase, sized-initialise, sized-outcome, sized-late}
+use Rattle.history.proofs.Alone.{Fades, request-initialise, request-outcome, fades-matches, fades-slots}
 use Rattle.history.proofs.Ticks.{ours}
 use Rattle.history.proofs.Parts.{part, part-served, part-request}
 use Rattle.history.proofs.Pins.{initialisedPart, own-initialise, still-apart, rests-on, unbound-still, unbound-slots}
@@ -68,30 +65,18 @@ module _ (i j : ℕ) (hi : i < 16) (hj : j < 16) (n : j ≢ i) where
       let w : State = withSetUp v i (kindIn (word s i 0)) in
       bits-status w (sized-channel v i _ (sized-word u i 0 (pinControl s i) (sized-pin s i (eqb (field 2 (channelControl s i) 0) 1) z))) ∙ bits-regs w s j refl
 
-  bits-stepRequest : (p : Phase) (s : State) → Sized s → bits (stepRequest p i s) j ≡ bits s j
-  unfolding stepRequest
-  bits-stepRequest Resting s z = bits-outcome s _ _ z
-  bits-stepRequest Requested s z = bits-outcome s _ _ z
-  bits-stepRequest (Armed t) s z = refl
-  bits-stepRequest (Matched t m) s z = refl
-
-  bits-matchServed : (p : Phase) (s : State) → Sized s → bits (matchServed p i s) j ≡ bits s j
-  unfolding matchServed withLate withChannel
-  bits-matchServed Resting s z = refl
-  bits-matchServed Requested s z = refl
-  bits-matchServed (Armed t) s z = refl
-  bits-matchServed (Matched t m) s z = bits-outcome (withLate s i _) t _ (sized-late s i _ z) ∙ bits-regs _ s j refl
-
-  bits-requestServed : (s : State) → Sized s → bits (requestServed i s) j ≡ bits s j
-  unfolding requestServed
-  bits-requestServed s z =
-      let y : Sized (withRequest s i 0) = sized-request s i 0 z in
-      pick-cases (λ x. bits x j ≡ bits s j) (eqb (request s i) 2) (λ a. bits-initialise _ y ∙ bits-request s z)
-      (λ a. pick-cases (λ x. bits x j ≡ bits s j) (eqb (request s i) 3) (λ b. bits-stepRequest _ _ y ∙ bits-request s z) (λ b. refl))
-
   bits-served : (s : State) → Sized s → bits (served i s) j ≡ bits s j
-  unfolding served
-  bits-served s z = bits-matchServed _ _ (sized-requestServed i s z) ∙ bits-requestServed s z
+  unfolding withLate withChannel
+  bits-served s z =
+      walk-served (λ t. Sized t × (bits t j ≡ bits s j)) i s
+      record {
+        clears = (sized-request s i 0 z, bits-request s z);
+        passes = λ a b. (z, refl);
+        sets-up = λ t a p. (sized-initialise i t (p .0), bits-initialise t (p .0) ∙ p .1);
+        moves = λ t reference o a p. (sized-outcome t i reference o (p .0), bits-outcome t reference o (p .0) ∙ p .1);
+        tells = λ t m p. (sized-late t i m (p .0), bits-regs _ t j refl ∙ p .1);
+      }
+      .1
 
 status-initialised : (j : ℕ) (s : State) → Sized s → status (initialise j s) j ≡ true
 unfolding initialise withSetUp
@@ -99,33 +84,17 @@ status-initialised j s z = status-same _ j (sized-channel _ j _ (sized-word _ j 
 
 -- ---- a request through a tick
 
-request-outcome : (j : ℕ) (s : State) (reference : ℕ) (o : Outcome) → request (outcome s j reference o) j ≡ request s j
-unfolding outcome withPhase withChannel bits request reg
-request-outcome j s reference Arrived = request-status _ j j
-request-outcome j s reference (Step w k) = ap (λ (x : Bits). x .request) (bits-regs (stepped s j reference w k) s j ((left-step s j reference w k) .regs))
-
-request-stepRequest : (p : Phase) (j : ℕ) (s : State) → request (stepRequest p j s) j ≡ request s j
-unfolding stepRequest
-request-stepRequest Resting j s = request-outcome j s _ _
-request-stepRequest Requested j s = request-outcome j s _ _
-request-stepRequest (Armed t) j s = refl
-request-stepRequest (Matched t m) j s = refl
-
-request-matchServed : (p : Phase) (j : ℕ) (s : State) → request (matchServed p j s) j ≡ request s j
-unfolding matchServed withLate withChannel request reg
-request-matchServed Resting j s = refl
-request-matchServed Requested j s = refl
-request-matchServed (Armed t) j s = refl
-request-matchServed (Matched t m) j s = request-outcome j (withLate s j _) t _
-
 request-served : (j : ℕ) (s : State) → Sized s → 2 ≤ request s j → request (served j s) j ≡ 0
-unfolding served requestServed request
+unfolding withLate withChannel request reg
 request-served j s z h =
-    let gone : request (withRequest s j 0) j ≡ 0 = request-same s j 0 (omega arith) z in
-    request-matchServed ((channel s j) .phase) j _
-    ∙ pick-cases (λ x. request x j ≡ 0) (eqb (request s j) 2) (λ a. request-initialise j _ ∙ gone)
-    (λ a. pick-cases (λ x. request x j ≡ 0) (eqb (request s j) 3) (λ b. request-stepRequest ((channel s j) .phase) j _ ∙ gone)
-    (λ b. absurd (omega (arith, eqb-false (request s j) 2 a, eqb-false (request s j) 3 b, field-lt 2 (reg s (hsrrOf j)) (2 * (j % 8))))))
+    walk-served (λ t. request t j ≡ 0) j s
+    record {
+      clears = request-same s j 0 (omega arith) z;
+      passes = λ a b. absurd (omega (arith, field-lt 2 (reg s (hsrrOf j)) (2 * (j % 8))));
+      sets-up = λ t a e. request-initialise j t ∙ e;
+      moves = λ t reference o a e. request-outcome j t reference o ∙ e;
+      tells = λ t n e. e;
+    }
 
 matches-bits : (j : ℕ) (s : State) → bits (matches s) j ≡ bits s j
 unfolding matches clocked withTimers withSlots
@@ -141,24 +110,18 @@ module _ (j : ℕ) (s : State) (h : j < 16) (z : Sized s) (g : Going s) where
 
   -- served, it is done
   pub request-done : 2 ≤ request s j → ours j s ≡ true → request (tick s) j ≡ 0
-  unfolding tick slotServed ours goesTo bits
-  request-done l = by (serviceIn s)
-    where
-      by : (v : Service) → goesTo j v ≡ true → request (slotServed v (matches s)) j ≡ 0
-      by (Of d u) e =
-          subst (λ i. request (served i (withSlots (matches s) u)) j ≡ 0) (eqb-true j d e)
-          (request-served j (withSlots (matches s) u) (served-sized u) (omega (arith, ap (λ (x : Bits). x .request) (slots-bits j s u))))
-      by Nobody e = absurd (not-both e refl)
+  unfolding ours bits
+  request-done l =
+      walk-own (λ o x t. o ≡ true → request t j ≡ 0) j s (λ e. absurd (not-both e refl))
+      (λ u e. request-served j (withSlots (matches s) u) (served-sized u) (omega (arith, ap (λ (x : Bits). x .request) (slots-bits j s u))))
+      (λ d u h n e. absurd (not-both e refl))
 
   -- not served, it stays
   pub request-waits : ours j s ≡ false → request (tick s) j ≡ request s j
-  unfolding tick slotServed ours goesTo bits
-  request-waits = by (serviceIn s) refl
-    where
-      by : (v : Service) → serviceIn s ≡ v → goesTo j v ≡ false → request (slotServed v (matches s)) j ≡ request s j
-      by (Of d u) q e =
-          ap (λ (x : Bits). x .request) (bits-served d j (served-small s d u q) h (eqb-false j d e) (withSlots (matches s) u) (served-sized u) ∙ slots-bits j s u)
-      by Nobody q e = ap (λ (x : Bits). x .request) (matches-bits j s)
+  unfolding ours bits
+  request-waits =
+      walk-own (λ o x t. o ≡ false → request t j ≡ request s j) j s (λ e. ap (λ (x : Bits). x .request) (matches-bits j s)) (λ u e. absurd (not-both refl e))
+      (λ d u l n e. ap (λ (x : Bits). x .request) (bits-served d j l h n (withSlots (matches s) u) (served-sized u) ∙ slots-bits j s u))
 
 -- ---- one channel through a tick
 
@@ -221,16 +184,9 @@ module _ (j : ℕ) (s : State) (h : j < 16) (z : Sized s) (g : Going s) (rests :
   unserved-slots x = (unbound-slots j s h z g rests apart x, slots-bits j s x)
 
   pub settled : Settled j s (tick s)
-  unfolding tick slotServed ours goesTo
-  settled = by (serviceIn s) refl
-    where
-      to : (d : ℕ) (u : Slots) → d < 16 → (b : Bool) → eqb j d ≡ b → ours j s ≡ b → Settled j s (served d (withSlots (matches s) u))
-      to d u l true e o =
-          subst (λ i. Settled j s (served i (withSlots (matches s) u))) (eqb-true j d e)
-          (own (withSlots (matches s) u) (fades-slots s u (matches s) (fades-matches s z g)) (unserved-slots u) o)
-      to d u l false e o =
-          kept _ (unserved-on d (withSlots (matches s) u) l (eqb-false j d e) (fades-slots s u (matches s) (fades-matches s z g)) (unserved-slots u)) o
-
-      by : (x : Service) → serviceIn s ≡ x → Settled j s (slotServed x (matches s))
-      by (Of d u) e = to d u (served-small s d u e) (eqb j d) refl (ap (goesTo j) e)
-      by Nobody e = kept (matches s) unserved-matches (ap (goesTo j) e)
+  unfolding ours
+  settled =
+      walk-own (λ o x t. ours j s ≡ o → Settled j s t) j s (kept (matches s) unserved-matches)
+      (λ u. own (withSlots (matches s) u) (fades-slots s u (matches s) (fades-matches s z g)) (unserved-slots u))
+      (λ d u l n. kept _ (unserved-on d (withSlots (matches s) u) l n (fades-slots s u (matches s) (fades-matches s z g)) (unserved-slots u)))
+      refl

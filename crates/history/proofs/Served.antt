@@ -14,27 +14,26 @@ use Rattle.words.specs.Clock.{due}
 use Rattle.words.specs.Field.{field}
 use Rattle.words.proofs.ChoiceLaws.{pick-cases, not-both}
 use Rattle.slots.specs.declared.Slots.{Slots}
-use Rattle.slots.specs.declared.Service.{Service}
-use Rattle.slots.specs.declared.Service.the-variants.{Of, Nobody}
 use Rattle.slots.specs.Slots.{ticked, chosen}
 use Rattle.slots.specs.Claims.{goesTo, leaves, serviceOf, patience}
 use Rattle.slots.specs.Claims as slots
 use Rattle.slots.proofs.Within.{one-service}
 use Rattle.motor.specs.declared.Way.{Way}
 use Rattle.motor.specs.declared.Phase.{Phase}
-use Rattle.motor.specs.declared.Phase.the-variants.{Resting, Requested, Armed, Matched}
+use Rattle.motor.specs.declared.Phase.the-variants.{Resting, Matched}
 use Rattle.motor.specs.declared.Outcome.{Outcome}
 use Rattle.motor.specs.declared.Outcome.the-variants.{Arrived, Step}
 use Rattle.unit.specs.declared.Channel.{Channel}
 use Rattle.unit.specs.declared.State.{State}
 use Rattle.unit.specs.TheUnit.{withReg, withTimers, withSlots, withPins, withChannel, each, cisr, hsrrOf, cprOf, withInitialised, withBinding, stepping, reg, request, withRequest, priority, withStatus, withPin, channel, withSetUp, withLevel, withPhase, withLate, timeFor, withWords, withWord, modCount, size}
 use Rattle.unit.specs.Stepping.{pinOut, pinsOut, nextCount, prepared, matchSet, stepped, outcome}
-use Rattle.unit.specs.OneTick.{matchOf, matched, initialise, stepRequest, requestServed, matchServed, served, slotServed, clocked, matches, serviceIn, tick}
+use Rattle.unit.specs.OneTick.{matched, initialise, served, clocked, matches, serviceIn, tick}
 use Rattle.unit.specs.Pending.{isMatched, isWanted, wanted, asksOf}
 use Rattle.unit.specs.declared.Place.{Place}
 use Rattle.unit.specs.Gate.{place, requested, requestedOne, stored, askPlace}
 use Rattle.unit.proofs.Reset.{Sized}
 use Rattle.unit.proofs.Places.{PlaceGood, place-good, gate-place}
+use Rattle.history.proofs.TickWalk.{walk-each, walk-matched, walk-served, walk-own}
 use Rattle.history.proofs.Walk.{IfTaken, walk-place, word-yes, taken-answer}
 use Rattle.unit.proofs.Access.{sized-reg, sized-timers, sized-pin, sized-channel, sized-word, channel-same, channel-other, channel-keeps, reg-other, hsrr-range, request-same, request-other, request-status}
 use Rattle.unit.specs.Calls.{Call, writeOf}
@@ -44,7 +43,6 @@ use Rattle.history.specs.Served.{Waiting, AtLevel, ticksOf, turnIn, Serv
 use Rattle.history.proofs.Fine.{Fine}
 use Rattle.history.proofs.Always.{state-good}
 use Rattle.history.proofs.Frame.{sized-request, sized-binding, sized-slots}
-use Rattle.history.proofs.Alone.{served-small}
 use Rattle.history.proofs.Ticks.{priority-matches}
 use Rattle.history.proofs.Chain.{priority-small, some}
 
@@ -84,14 +82,9 @@ module _ (c : ℕ) (hc : c < 16) (b : State) where
   unfolding withSetUp
   still-setUp j k s f = still-channel j _ s (channel-keeps (λ (y : Channel). y .phase) s j _ c refl) f
 
-  still-each : (n a : ℕ) (f : ℕ → State → State) → ((j : ℕ) (s : State) → Still c b s → Still c b (f j s)) → (s : State) → Still c b s → Still c b (each n a f s)
-  unfolding each
-  still-each zero a f h s p = p
-  still-each (suc n) a f h s p = h (a + n) (each n a f s) (still-each n a f h s p)
-
   still-pins : (j : ℕ) (s : State) → Still c b s → Still c b (pinsOut s j)
   unfolding pinsOut pinOut
-  still-pins j s f = still-each (size s j) j pinOut (λ i t g. still-pin i _ t g) s f
+  still-pins j s f = walk-each (Still c b) (size s j) j pinOut (λ i t x y. still-pin i _ t) s f
 
   still-prepared : (w : Way) (m j : ℕ) (s : State) → Still c b s → Still c b (prepared w m j s)
   unfolding prepared
@@ -115,35 +108,22 @@ module _ (c : ℕ) (hc : c < 16) (b : State) where
     unfolding outcome stepped
     still-outcome reference Arrived s f = still-status d _ (still-phase _ Resting s f)
     still-outcome reference (Step w k) s f =
-        still-matchSet w _ _ (still-each (size s d) d (prepared w (nextCount w (modCount s d))) (λ i t g. still-prepared w _ i t g) _ (still-word d 4 _ _ (still-word d 2 _ s f)))
+        still-matchSet w _ _ (walk-each (Still c b) (size s d) d (prepared w (nextCount w (modCount s d))) (λ i t x y. still-prepared w _ i t) _ (still-word d 4 _ _ (still-word d 2 _ s f)))
 
-    still-matchOf : (p : Phase) (s : State) → Still c b s → Still c b (matchOf p d s)
-    unfolding matchOf
-    still-matchOf Resting s f = f
-    still-matchOf Requested s f = f
-    still-matchOf (Armed t) s f = pick-cases (Still c b) (due (timeFor s d) t) (λ a. still-phase _ _ _ (still-pins d s f)) (λ a. f)
-    still-matchOf (Matched t m) s f = f
-
-    still-stepRequest : (p : Phase) (s : State) → Still c b s → Still c b (stepRequest p d s)
-    unfolding stepRequest
-    still-stepRequest Resting s f = still-outcome _ _ s f
-    still-stepRequest Requested s f = still-outcome _ _ s f
-    still-stepRequest (Armed t) s f = f
-    still-stepRequest (Matched t m) s f = f
-
-    still-matchServed : (p : Phase) (s : State) → Still c b s → Still c b (matchServed p d s)
-    unfolding matchServed
-    still-matchServed Resting s f = f
-    still-matchServed Requested s f = f
-    still-matchServed (Armed t) s f = f
-    still-matchServed (Matched t m) s f = still-outcome t _ _ (still-late d _ s f)
+    still-matched : (s : State) → Still c b s → Still c b (matched d s)
+    still-matched s f = walk-matched (Still c b) d s (λ g time. still-phase _ _ _ (still-pins d s f)) f
 
     still-served : (s : State) → Still c b s → Still c b (served d s)
-    unfolding served requestServed initialise
+    unfolding initialise
     still-served s f =
-        still-matchServed _ _
-        (pick-cases (Still c b) (eqb (request s d) 2) (λ a. still-status d _ (still-setUp d _ _ (still-word d 0 _ _ (still-pin d _ _ (still-request s f)))))
-        (λ a. pick-cases (Still c b) (eqb (request s d) 3) (λ e. still-stepRequest _ _ (still-request s f)) (λ e. f)))
+        walk-served (Still c b) d s
+        record {
+          clears = still-request s f;
+          passes = λ a e. f;
+          sets-up = λ t a g. still-status d _ (still-setUp d _ _ (still-word d 0 _ _ (still-pin d _ t g)));
+          moves = λ t reference o a. still-outcome reference o t;
+          tells = λ t m. still-late d m t;
+        }
 
 -- ---- what waits
 
@@ -178,53 +158,33 @@ unfolding Waiting withSlots channel reg
 with-slots c u t w = record { sized = sized-slots t u (w .sized); waits = w .waits; slots = refl }
 
 -- its own match can only make it wait
-own-matchOf : (c : ℕ) (z : Slots) (p : Phase) (s : State) → c < 16 → Waits c z s → Waits c z (matchOf p c s)
-unfolding matchOf
-own-matchOf c z Resting s h w = w
-own-matchOf c z Requested s h w = w
-own-matchOf c z (Armed t) s h w =
-    pick-cases (Waits c z) (due (timeFor s c) t)
-    (λ a.
+own-matched : (c : ℕ) (z : Slots) (s : State) → c < 16 → Waits c z s → Waits c z (matched c s)
+own-matched c z s h w =
     let u : Still c s (pinsOut s c) = still-pins c h s c s (still-refl c s (w .sized)) in
-    matched-waits c z (pinsOut s c) _ (timeFor s c) t h (u .sized) (u .slots ∙ w .slots))
-    (λ a. w)
-own-matchOf c z (Matched t m) s h w = w
+    walk-matched (Waits c z) c s (λ g time. matched-waits c z (pinsOut s c) _ (timeFor s c) time h (u .sized) (u .slots ∙ w .slots)) w
 
 waits-matched : (c : ℕ) (z : Slots) (j : ℕ) (s : State) → c < 16 → j < 16 → Waits c z s → Waits c z (matched j s)
-unfolding matched
 waits-matched c z j s h l w = by (eqb c j) refl
   where
-    by : (b : Bool) → eqb c j ≡ b → Waits c z (matchOf ((channel s j) .phase) j s)
-    by true e = subst (λ i. Waits c z (matchOf ((channel s i) .phase) i s)) (eqb-true c j e) (own-matchOf c z ((channel s c) .phase) s h w)
-    by false e = still-waits c z s _ (still-matchOf c h s j l (eqb-false c j e) ((channel s j) .phase) s (still-refl c s (w .sized))) w
-
-waits-each : (c : ℕ) (z : Slots) (n a : ℕ) → a + n ≤ 16 → c < 16 → (s : State) → Waits c z s → Waits c z (each n a matched s)
-unfolding each
-waits-each c z zero a l h s w = w
-waits-each c z (suc n) a l h s w = waits-matched c z (a + n) (each n a matched s) h (omega arith) (waits-each c z n a (omega arith) h s w)
+    by : (b : Bool) → eqb c j ≡ b → Waits c z (matched j s)
+    by true e = subst (λ i. Waits c z (matched i s)) (eqb-true c j e) (own-matched c z s h w)
+    by false e = still-waits c z s _ (still-matched c h s j l (eqb-false c j e) s (still-refl c s (w .sized))) w
 
 waits-matches : (c : ℕ) (s : State) → c < 16 → Waits c (s .slots) s → Waits c (ticked (s .slots)) (matches s)
 unfolding matches clocked withSlots withTimers Waiting channel reg
 waits-matches c s h w =
-    waits-each c (ticked (s .slots)) 16 0 (omega arith) h (clocked s)
+    walk-each (Waits c (ticked (s .slots))) 16 0 matched (λ j t x y. waits-matched c (ticked (s .slots)) j t h (omega arith)) (clocked s)
     record { sized = sized-slots _ _ (sized-timers s _ (w .sized)); waits = w .waits; slots = refl }
 
 -- a tick whose slot goes elsewhere
 waits-tick : (c : ℕ) (s : State) → c < 16 → Waits c (s .slots) s → goesTo c (serviceIn s) ≡ false → Waits c (leaves ((matches s) .slots) (serviceIn s)) (tick s)
-unfolding tick slotServed goesTo leaves
-waits-tick c s h w = by (serviceIn s) refl
-  where
-    t : State
-    t = matches s
-
-    m : Waits c (ticked (s .slots)) t
-    m = waits-matches c s h w
-
-    by : (v : Service) → serviceIn s ≡ v → goesTo c v ≡ false → Waits c (leaves (t .slots) v) (slotServed v t)
-    by (Of d u) e o =
-        still-waits c u (withSlots t u) _ (still-served c h (withSlots t u) d (served-small s d u e) (eqb-false c d o) (withSlots t u) (still-refl c (withSlots t u) (sized-slots t u (m .sized))))
-        (with-slots c u t m)
-    by Nobody e o = record { sized = m .sized; waits = m .waits; slots = refl }
+waits-tick c s h w =
+    let t : State = matches s in
+    let m : Waits c (ticked (s .slots)) t = waits-matches c s h w in
+    walk-own (λ o x y. o ≡ false → Waits c x y) c s (λ e. record { sized = m .sized; waits = m .waits; slots = refl }) (λ u e. absurd (not-both refl e))
+    (λ d u l n e.
+    still-waits c u (withSlots t u) _ (still-served c h (withSlots t u) d l n (withSlots t u) (still-refl c (withSlots t u) (sized-slots t u (m .sized))))
+    (with-slots c u t m))
 
 -- ready, so that slots come to it
 ready : (c l : ℕ) (t : State) → priority t c ≡ l → l ≢ 0 → Waiting c t → asksOf t l c ≡ true
