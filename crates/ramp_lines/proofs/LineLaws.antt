@@ -1,4 +1,4 @@
--- The next space, byte by byte, and why a long line asks for nothing.
+-- Why a long line asks for nothing.
 use Prim.Native.Nat.{ℕ, _+_, _-_, _≤_, _<_}
 use mathlib.Core.Bool.{Bool, true, false}
 use mathlib.Core.Path.{_≡_, refl, sym, ap, _∙_}
@@ -17,35 +17,18 @@ use Rattle.numeral.specs.declared.Short.{Short}
 use Rattle.numeral.specs.declared.Short.the-variants.{Whole as Small, Other as NoSmall}
 use Rattle.numeral.specs.Decimal.{decimalOf, shortOf}
 use Rattle.numeral.proofs.LengthLaws.{no-longer}
+use Rattle.text.proofs.FindingLaws.{found-from}
 use Rattle.ramp_lines.specs.declared.line.Request.{Request}
 use Rattle.ramp_lines.specs.declared.line.Request.the-variants.{Other}
-use Rattle.ramp_lines.specs.Lines.{beforeSpace, nextSpace, between, askedBy, requestOf}
+use Rattle.ramp_lines.specs.Lines.{nextSpace, between, askedBy, requestOf}
 use Rattle.ramp_lines.specs.Replying.{replyBy, replyTo}
 use Rattle.ramp_lines.specs.Claims.{CutSame}
-
-module _ (line : List ℕ) (i : ℕ) where
-  pub space-here : i < length line → getD line i 0 ≡ 32 → nextSpace line i ≡ i
-  unfolding nextSpace beforeSpace
-  space-here h e = rw (drop-cons line i 0 h, eq-eqb _ _ e) (omega arith)
-
-  pub space-later : i < length line → (getD line i 0 ≡ 32 → ⊥) → nextSpace line (i + 1) ≡ nextSpace line i
-  unfolding nextSpace beforeSpace
-  space-later h e = rw (add-one, drop-cons line i 0 h, ne-eqb _ _ e) (omega arith)
-
-  pub no-space : i ≡ length line → nextSpace line i ≡ i
-  unfolding nextSpace beforeSpace
-  no-space e = rw (e, drop-length) (omega arith)
 
 -- a part up to the line's end is all that is left
 pub to-end : (line : List ℕ) (k : ℕ) → take (length line - k) (drop k line) ≡ drop k line
 to-end line k = rw (← length-drop k line) (take-length (drop k line))
 
 -- ---- long lines
-
--- the next space is a place of the line from `at` on
-space-from : (line : List ℕ) (at : ℕ) → at ≤ nextSpace line at
-unfolding nextSpace
-space-from line at = omega arith
 
 between-length : (line : List ℕ) (a e : ℕ) → e ≤ length line → length (between line a e) ≡ e - a
 between-length line a e h = length-take-le (e - a) (drop a line) (simp length-drop (omega arith))
@@ -93,9 +76,9 @@ long-other line h =
         let y = between-length line (a + 1) b (omega arith) in
         let z = between-length line (b + 1) c (omega arith) in
         let w = length-drop (c + 1) line in
-        let p = space-from line 2 in
-        let q = space-from line (a + 1) in
-        let r = space-from line (b + 1) in
+        let p = found-from line 2 32 in
+        let q = found-from line (a + 1) 32 in
+        let r = found-from line (b + 1) 32 in
         numerals (getD line 0 0) (between line 2 a) (between line (a + 1) b) (between line (b + 1) c) (drop (c + 1) line) (omega arith) _ _ _ _ refl refl refl refl
 
 pub cut-same : CutSame

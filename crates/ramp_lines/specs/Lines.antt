@@ -4,6 +4,7 @@ use mathlib.Core.List.{List, [], _∷_}
 use lib.ListN.{length, take, drop, getD}
 use lib.Dec.{leb, ltb, eqb}
 use Rattle.words.specs.Choice.{pick, ask}
+use Rattle.text.specs.Finding.{firstFrom}
 use Rattle.numeral.specs.declared.Decimal.{Decimal}
 use Rattle.numeral.specs.declared.Decimal.the-variants.{Value as Number, Nothing as NoNumber}
 use Rattle.numeral.specs.declared.Short.{Short}
@@ -13,14 +14,9 @@ use Rattle.ramp.specs.declared.Ramp.the-variants.{Periods, Speeds}
 use Rattle.ramp_lines.specs.declared.line.Request.{Request}
 use Rattle.ramp_lines.specs.declared.line.Request.the-variants.{Asks, Other}
 
--- how many bytes stand before the first space, or in all where there is none
-unfoldable pub beforeSpace : List ℕ → ℕ
-beforeSpace [] = 0
-beforeSpace (b ∷ rest) = pick (eqb b 32) 0 (suc (beforeSpace rest))
-
 -- the place of the first space from `at` on, or the line's end
-unfoldable pub nextSpace : List ℕ → ℕ → ℕ
-nextSpace line at = at + beforeSpace (drop at line)
+abbrev pub nextSpace : List ℕ → ℕ → ℕ
+nextSpace line at = firstFrom line at 32
 
 -- the bytes from place a up to place e
 abbrev pub between : List ℕ → ℕ → ℕ → List ℕ

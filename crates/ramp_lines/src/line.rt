@@ -1,8 +1,6 @@
 // How a line is read.
 ghost use mathlib.Core.Path.{_≡_};
-ghost use Prim.Native.Nat.{_≤_};
-ghost use lib.ListN.{length};
-ghost use Rattle.ramp_lines.specs.Lines.{nextSpace, askedBy, requestOf};
+ghost use Rattle.ramp_lines.specs.Lines.{askedBy, requestOf};
 use numeral::Decimal;
 use numeral::Short;
 use ramp::Ramp;
@@ -25,17 +23,17 @@ pub fn read(line: &[u8]) -> Request
     if line[1] != b' ' {
         return Request::Other;
     }
-    let a = next_space(line, 2);
+    let a = text::find(line, 2, b' ');
     if line.len() <= a {
         return Request::Other;
     }
     let second = a + 1;
-    let b = next_space(line, second);
+    let b = text::find(line, second, b' ');
     if line.len() <= b {
         return Request::Other;
     }
     let third = b + 1;
-    let c = next_space(line, third);
+    let c = text::find(line, third, b' ');
     if line.len() <= c {
         return Request::Other;
     }
@@ -44,21 +42,6 @@ pub fn read(line: &[u8]) -> Request
     let y = numeral::decimal_of(&line[second..b]);
     let tick = numeral::decimal_of(&line[third..c]);
     asked(line[0], x, y, tick, numeral::short_of(&line[last..]))
-}
-
-// The place of the first space from `at` on, or the line's end.
-fn next_space(line: &[u8], at: usize) -> usize
-    requires { ⌜ at ≤ length (now line) ⌝ }
-    ensures { λ r. ⌜ (r ≡ nextSpace (now (line .entry)) at) × (at ≤ r) × (r ≤ length (now (line .entry))) ⌝ }
-{
-    let mut i = at;
-    while i < line.len() {
-        if line[i] == b' ' {
-            return i;
-        }
-        i += 1;
-    }
-    i
 }
 
 // By the letter and the numerals, each of which may be none.

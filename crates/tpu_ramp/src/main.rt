@@ -1,4 +1,5 @@
 // The ramp program: lines from standard input, their replies to standard output, block by block. Paper 02, #101.
+ghost use mathlib.Core.Path.{_≡_};
 ghost use Prim.Native.Nat.{_≤_};
 ghost use lib.ListN.{length};
 use libc::STDIN_FILENO;
@@ -52,31 +53,32 @@ fn block_done(kept: usize, block: &[u8], line: &mut [u8], out: &mut [u8]) -> Ses
     let mut s = Session { kept, ready: 0 };
     if block.len() == 0 {
         if 0 < kept {
-            return with_byte(s, b'\n', line, out);
+            return line_done(s, line, out);
         }
     }
-    for i in 0..block.len() {
-        s = with_byte(s, block[i], line, out);
+    let mut at = 0;
+    while at < block.len() {
+        let end = text::find(block, at, b'\n');
+        s.kept = text::bytes(line, s.kept, &block[at..end]);
+        if block.len() <= end {
+            return s;
+        }
+        at = end + 1;
+        s = line_done(s, line, out);
     }
     s
 }
 
-// A line feed ends the line; any other byte is kept, as far as there is room.
-fn with_byte(s: Session, b: u8, line: &mut [u8], out: &mut [u8]) -> Session
+// The reply to the line that is kept goes behind what stands ready.
+fn line_done(s: Session, line: &[u8], out: &mut [u8]) -> Session
     requires { ⌜ (s .kept ≤ length (now line)) × (s .ready ≤ length (now out)) ⌝ }
-    ensures { λ r. ⌜ (r .kept ≤ length (now (line .entry))) × (r .ready ≤ length (now (out .entry))) ⌝ }
+    ensures { λ r. ⌜ (r .kept ≡ 0) × (r .ready ≤ length (now (out .entry))) ⌝ }
 {
     let kept = s.kept;
     let ready = s.ready;
-    if b == b'\n' {
-        let more = ramp_lines::reply(&line[..kept], &mut out[ready..]);
-        return Session {
-            kept: 0,
-            ready: ready + more,
-        };
-    }
+    let more = ramp_lines::reply(&line[..kept], &mut out[ready..]);
     Session {
-        kept: text::put(line, kept, b),
-        ready,
+        kept: 0,
+        ready: ready + more,
     }
 }

@@ -86,7 +86,7 @@ fn last_line(s: Session, line: &[u8], out: &mut [u8]) -> Session
     t
 }
 
-// A line feed ends the line; any other byte is kept, as far as there is room.
+// What stands up to a line feed, or to the end of the block, is kept, as far as there is room; a line feed ends the line.
 fn lines_done(s: Session, block: &[u8], line: &mut [u8], out: &mut [u8]) -> Session
     requires { ⌜ (s .kept ≤ length (now line)) × (s .waiting ≤ length (now out)) ⌝ }
     ensures { λ r. ⌜ (r .kept ≤ length (now (line .entry))) × (r .waiting ≤ length (now (out .entry))) ⌝ }
@@ -94,13 +94,13 @@ fn lines_done(s: Session, block: &[u8], line: &mut [u8], out: &mut [u8]) -> Sess
     let mut t = s;
     let mut at = 0;
     while at < block.len() {
-        let b = block[at];
-        at += 1;
-        if b == b'\n' {
-            t = line_done(t, line, out);
-        } else {
-            t.kept = text::put(line, t.kept, b);
+        let end = text::find(block, at, b'\n');
+        t.kept = text::bytes(line, t.kept, &block[at..end]);
+        if block.len() <= end {
+            return t;
         }
+        at = end + 1;
+        t = line_done(t, line, out);
     }
     t
 }

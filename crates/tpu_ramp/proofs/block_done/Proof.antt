@@ -1,19 +1,21 @@
 use Prim.Native.Nat.{_-_, _≤_}
 use mathlib.Core.Path.{_≡_}
+use native.Mathlib.Omega.{arith}
 use lib.ListN.{length}
 use borrow.Author.Needs.{needs}
+use Rattle.text.proofs.PlacingLaws.{within}
 use Rattle.tpu_ramp.proofs.block_done.Statement.{statement}
 use Rattle.tpu_ramp.proofs.block_done.Tie as tie
 
 abbrev Inv-loop : tie.InvT-loop
-Inv-loop kept block line₀ out₀ s₀ i₀ i-end line out s i =
-    (i-end ≡ length block) × (i ≤ i-end) × (length line ≡ length line₀) × (length out ≡ length out₀) × (s .kept ≤ length line) × (s .ready ≤ length out)
+Inv-loop kept block line₀ out₀ s₀ at₀ line out s at =
+    (at ≤ length block) × (length line ≡ length line₀) × (length out ≡ length out₀) × (s .kept ≤ length line) × (s .ready ≤ length out)
 
 abbrev μ-loop : tie.MeasureT-loop
-μ-loop kept block line₀ out₀ s₀ i₀ i-end line out s i = i-end - i
+μ-loop kept block line₀ out₀ s₀ at₀ line out s at = length block - at
 
-with-byte-requires : tie.Need-with-byte-requires Inv-loop μ-loop
-with-byte-requires c κs = search needs
+line-done-requires : tie.Need-line-done-requires Inv-loop μ-loop
+line-done-requires c κs = search needs
 
 same-length : tie.Need-same-length Inv-loop μ-loop
 same-length c = search needs
@@ -27,20 +29,20 @@ returns c = search needs
 loop-holds : tie.Need-loop-holds Inv-loop μ-loop
 loop-holds c = search needs
 
-shared-slice-read-with-byte : tie.Need-shared-slice-read-with-byte Inv-loop μ-loop
-shared-slice-read-with-byte c = search needs
+find-requires : tie.Need-find-requires Inv-loop μ-loop
+find-requires c κs = search needs
 
-with-byte-requires-2 : tie.Need-with-byte-requires-2 Inv-loop μ-loop
-with-byte-requires-2 c κs = search needs
+sub-bytes : tie.Need-sub-bytes Inv-loop μ-loop
+sub-bytes c = search needs
 
-add-i : tie.Need-add-i Inv-loop μ-loop
-add-i c = search needs
+part-bytes-start : tie.Need-part-bytes-start Inv-loop μ-loop
+part-bytes-start c = search needs
 
-loop-less : tie.Need-loop-less Inv-loop μ-loop
-loop-less c = search needs
+part-bytes-end : tie.Need-part-bytes-end Inv-loop μ-loop
+part-bytes-end c = search needs
 
-loop-again : tie.Need-loop-again Inv-loop μ-loop
-loop-again c = search needs
+bytes-requires : tie.Need-bytes-requires Inv-loop μ-loop
+bytes-requires c κs = search needs
 
 same-length-3 : tie.Need-same-length-3 Inv-loop μ-loop
 same-length-3 c = search needs
@@ -49,7 +51,28 @@ same-length-4 : tie.Need-same-length-4 Inv-loop μ-loop
 same-length-4 c = search needs
 
 returns-2 : tie.Need-returns-2 Inv-loop μ-loop
-returns-2 c = search needs
+returns-2 c = let k = within (c .before .before .before .bytes .ensures) (omega arith) in search needs
+
+add-at : tie.Need-add-at Inv-loop μ-loop
+add-at c = search needs
+
+line-done-requires-2 : tie.Need-line-done-requires-2 Inv-loop μ-loop
+line-done-requires-2 c κs = let k = within (c .before .before .before .before .before .bytes .ensures) (omega arith) in search needs
+
+loop-less : tie.Need-loop-less Inv-loop μ-loop
+loop-less c = search needs
+
+loop-again : tie.Need-loop-again Inv-loop μ-loop
+loop-again c = search needs
+
+same-length-5 : tie.Need-same-length-5 Inv-loop μ-loop
+same-length-5 c = search needs
+
+same-length-6 : tie.Need-same-length-6 Inv-loop μ-loop
+same-length-6 c = search needs
+
+returns-3 : tie.Need-returns-3 Inv-loop μ-loop
+returns-3 c = search needs
 
 pub block-done-spec : {M : Type 1} → statement M
 block-done-spec =
@@ -57,16 +80,23 @@ block-done-spec =
     (tie.spec
     Inv-loop
     μ-loop
-    with-byte-requires
+    line-done-requires
     same-length
     same-length-2
     returns
     loop-holds
-    shared-slice-read-with-byte
-    with-byte-requires-2
-    add-i
-    loop-less
-    loop-again
+    find-requires
+    sub-bytes
+    part-bytes-start
+    part-bytes-end
+    bytes-requires
     same-length-3
     same-length-4
-    returns-2)
+    returns-2
+    add-at
+    line-done-requires-2
+    loop-less
+    loop-again
+    same-length-5
+    same-length-6
+    returns-3)

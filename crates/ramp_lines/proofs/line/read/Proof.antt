@@ -18,31 +18,31 @@ returns-2 : tie.Need-returns-2
 unfolding requestOf ask
 returns-2 c = search cases
 
-next-space-requires : tie.Need-next-space-requires
-next-space-requires c κs = search needs
+find-requires : tie.Need-find-requires
+find-requires c κs = search needs
 
 returns-3 : tie.Need-returns-3
 unfolding requestOf ask
-returns-3 c = rw (← c .before .next-space .ensures .0) (search cases)
+returns-3 c = rw (← c .before .find .ensures .0) (search cases)
 
 add-second : tie.Need-add-second
 add-second c = search needs
 
-next-space-requires-2 : tie.Need-next-space-requires-2
-next-space-requires-2 c κs = search needs
+find-requires-2 : tie.Need-find-requires-2
+find-requires-2 c κs = search needs
 
 returns-4 : tie.Need-returns-4
 unfolding requestOf ask
 returns-4 c =
     let second = c .before in
     let first = second .before .before in
-    rw (← first .next-space .ensures .0, ← second .next-space2 .ensures .0) (search cases)
+    rw (← first .find .ensures .0, ← second .find2 .ensures .0) (search cases)
 
 add-third : tie.Need-add-third
 add-third c = search needs
 
-next-space-requires-3 : tie.Need-next-space-requires-3
-next-space-requires-3 c κs = search needs
+find-requires-3 : tie.Need-find-requires-3
+find-requires-3 c κs = search needs
 
 returns-5 : tie.Need-returns-5
 unfolding requestOf ask
@@ -50,7 +50,7 @@ returns-5 c =
     let third = c .before in
     let second = third .before .before in
     let first = second .before .before in
-    rw (← first .next-space .ensures .0, ← second .next-space2 .ensures .0, ← third .next-space3 .ensures .0) (search cases)
+    rw (← first .find .ensures .0, ← second .find2 .ensures .0, ← third .find3 .ensures .0) (search cases)
 
 add-last : tie.Need-add-last
 add-last c = search needs
@@ -122,9 +122,9 @@ returns-6 c =
     let head = first .before in
     let rest = rw to-end at (n .short-of .ensures) in
     rw (
-      ← first .next-space .ensures .0,
-      ← second .next-space2 .ensures .0,
-      ← third .next-space3 .ensures .0,
+      ← first .find .ensures .0,
+      ← second .find2 .ensures .0,
+      ← third .find3 .ensures .0,
       le-leb 2 _ (head .before .before .if1 .left),
       eq-eqb _ 32 (head .if2 .left),
       lt-ltb _ _ (second .before .if3 .left),
@@ -144,13 +144,13 @@ read-spec =
     returns
     shared-slice-read-if2
     returns-2
-    next-space-requires
+    find-requires
     returns-3
     add-second
-    next-space-requires-2
+    find-requires-2
     returns-4
     add-third
-    next-space-requires-3
+    find-requires-3
     returns-5
     add-last
     sub-decimal-of

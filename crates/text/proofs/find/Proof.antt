@@ -3,16 +3,16 @@ use mathlib.Core.Path.{_≡_, refl, sym, _∙_}
 use native.Mathlib.Omega.{arith}
 use lib.ListN.{length}
 use borrow.Author.Needs.{needs}
-use Rattle.ramp_lines.specs.Lines.{nextSpace}
-use Rattle.ramp_lines.proofs.LineLaws.{space-here, space-later, no-space}
-use Rattle.ramp_lines.proofs.line.next_space.Statement.{statement}
-use Rattle.ramp_lines.proofs.line.next_space.Tie as tie
+use Rattle.text.specs.Finding.{firstFrom}
+use Rattle.text.proofs.FindingLaws.{found-here, found-later, found-none}
+use Rattle.text.proofs.find.Statement.{statement}
+use Rattle.text.proofs.find.Tie as tie
 
 abbrev Inv-loop : tie.InvT-loop
-Inv-loop line at i₀ i = (at ≤ i) × (i ≤ length line) × (nextSpace line i ≡ nextSpace line at)
+Inv-loop block at b i₀ i = (at ≤ i) × (i ≤ length block) × (firstFrom block i b ≡ firstFrom block at b)
 
 abbrev μ-loop : tie.MeasureT-loop
-μ-loop line at i₀ i = length line - i
+μ-loop block at b i₀ i = length block - i
 
 loop-holds : tie.Need-loop-holds Inv-loop μ-loop
 loop-holds c = (omega arith, omega arith, refl)
@@ -23,7 +23,7 @@ shared-slice-read-if1 c = search needs
 returns : tie.Need-returns Inv-loop μ-loop
 returns c =
     let l = c .before .before .before .loop in
-    (sym (space-here _ (l .i) (omega arith) (c .if1 .taken)) ∙ l .inv .2, omega arith, omega arith)
+    (sym (found-here _ (l .i) _ (omega arith) (c .if1 .taken)) ∙ l .inv .2, omega arith, omega arith)
 
 add-i : tie.Need-add-i Inv-loop μ-loop
 add-i c = search needs
@@ -34,13 +34,13 @@ loop-less c = search needs
 loop-again : tie.Need-loop-again Inv-loop μ-loop
 loop-again c =
     let l = c .before .before .before .loop in
-    (omega arith, omega arith, space-later _ (l .i) (omega arith) (c .if1 .left) ∙ l .inv .2)
+    (omega arith, omega arith, found-later _ (l .i) _ (omega arith) (c .if1 .left) ∙ l .inv .2)
 
 returns-2 : tie.Need-returns-2 Inv-loop μ-loop
-returns-2 c = let l = c .before .loop in (sym (no-space _ (l .i) (omega arith)) ∙ l .inv .2, omega arith, omega arith)
+returns-2 c = let l = c .before .loop in (sym (found-none _ (l .i) _ (omega arith)) ∙ l .inv .2, omega arith, omega arith)
 
-pub next-space-spec : {M : Type 1} → statement M
-next-space-spec =
+pub find-spec : {M : Type 1} → statement M
+find-spec =
     tie.close
     (tie.spec
     Inv-loop
