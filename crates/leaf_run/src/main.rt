@@ -21,20 +21,11 @@ fn number(n: u16) {
     decimal(n);
 }
 
-// Four hexadecimal digits, the highest first.
 fn word(w: u16) {
     text(b" $");
-    digit(field::nibble(w, 3));
-    digit(field::nibble(w, 2));
-    digit(field::nibble(w, 1));
-    digit(field::nibble(w, 0));
-}
-
-fn digit(d: u16) {
-    let at = d % 16;
-    let digits = b"0123456789ABCDEF";
-    let one = [digits[at as usize]];
-    text(&one);
+    let mut digits = [0u8; 4];
+    text::word(&mut digits, 0, w);
+    text(&digits);
 }
 
 fn flag(on: bool) {

@@ -3,7 +3,6 @@ use libc::STDOUT_FILENO;
 use unit::Answer;
 use unit::Answered;
 use unit::Reading;
-use words::field;
 
 pub fn text(t: &[u8]) {
     io::write_all(STDOUT_FILENO, t);
@@ -52,19 +51,10 @@ pub fn route(name: &[u8], from: u16, to: u16) {
     colon();
 }
 
-// Four hexadecimal digits, the highest first.
 fn hex(w: u16) {
-    digit(field::nibble(w, 3));
-    digit(field::nibble(w, 2));
-    digit(field::nibble(w, 1));
-    digit(field::nibble(w, 0));
-}
-
-fn digit(d: u16) {
-    let at = d % 16;
-    let digits = b"0123456789ABCDEF";
-    let one = [digits[at as usize]];
-    text(&one);
+    let mut digits = [0u8; 4];
+    text::word(&mut digits, 0, w);
+    text(&digits);
 }
 
 pub fn either(on: bool, yes: &[u8], no: &[u8]) {
