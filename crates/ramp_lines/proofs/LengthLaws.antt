@@ -15,9 +15,9 @@ use Rattle.ramp.specs.declared.Counts.the-variants.{Taken, Refused}
 use Rattle.ramp_lines.specs.declared.line.Request.{Request}
 use Rattle.ramp_lines.specs.declared.line.Request.the-variants.{Asks, Other}
 use Rattle.ramp_lines.specs.Lines.{requestOf}
-use Rattle.ramp_lines.specs.Replying.{periodsTo, taken, refused, answerBy, replyBy, replyTo}
+use Rattle.ramp_lines.specs.Replying.{periodsTo, taken, answerBy, replyBy, replyTo}
 use Rattle.ramp_lines.specs.Claims.{NoneLonger}
-use Rattle.text.proofs.LengthLaws.{decimal-short}
+use Rattle.text.proofs.LengthLaws.{decimal-short, number-line}
 
 -- no period is longer than STEP_CNTL1
 period-le : (cntl0 cntl1 r : ℕ) → period cntl0 cntl1 r ≤ cntl1
@@ -37,11 +37,11 @@ in-range (Periods slow difference) tick n cntl0 cntl1 r = (r .words .rates .1, r
 in-range (Speeds slow fast) tick n cntl0 cntl1 r = (r .words .rates .1, r .words .word)
 
 answer-short : (letter n : ℕ) (x : Counts) → ((cntl0 cntl1 : ℕ) → x ≡ Taken cntl0 cntl1 → (n ≤ 14) × (cntl1 ≤ 0xffff)) → length (answerBy letter n x) ≤ 12 + 14 * 6
-unfolding answerBy taken refused hexWord
+unfolding answerBy taken hexWord
 answer-short letter n (Taken cntl0 cntl1) h =
     let fits = h cntl0 cntl1 refl in
     simp length-append (omega (arith, fits .0, periods-short n cntl0 cntl1 (fits .1)))
-answer-short letter n (Refused q) h = simp length-append (omega (arith, decimal-short .1 q))
+answer-short letter n (Refused q) h = rw (number-line 78 q) (omega (arith, decimal-short .1 q))
 
 request-short : (q : Request) → length (replyBy q) ≤ 12 + 14 * 6
 unfolding replyBy

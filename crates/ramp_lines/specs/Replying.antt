@@ -2,7 +2,7 @@
 use Prim.Native.Nat.{ℕ, zero, suc}
 use mathlib.Core.List.{List, [], _∷_, _++_}
 use Rattle.motor.specs.Stepping.{period}
-use Rattle.text.specs.Printing.{hexWord, decimal}
+use Rattle.text.specs.Printing.{hexWord, decimal, numberLine}
 use Rattle.ramp.specs.declared.Ramp.{Ramp}
 use Rattle.ramp.specs.declared.Ramp.the-variants.{Periods, Speeds}
 use Rattle.ramp.specs.declared.Counts.{Counts}
@@ -22,13 +22,10 @@ unfoldable pub taken : ℕ → ℕ → ℕ → ℕ → List ℕ
 taken letter n cntl0 cntl1 =
     letter ∷ 32 ∷ hexWord cntl0 ++ (32 ∷ hexWord cntl1 ++ (periodsTo n cntl0 cntl1 ++ (10 ∷ [])))
 
--- refused: `N` (78) and the number
-unfoldable pub refused : ℕ → List ℕ
-refused q = 78 ∷ 32 ∷ decimal q ++ (10 ∷ [])
-
+-- or, refused, `N` (78) and the number
 unfoldable pub answerBy : ℕ → ℕ → Counts → List ℕ
 answerBy letter n (Taken cntl0 cntl1) = taken letter n cntl0 cntl1
-answerBy letter n (Refused q) = refused q
+answerBy letter n (Refused q) = numberLine 78 q
 
 -- `P` (80) or `S` (83), as the line had it
 unfoldable pub letterOf : Ramp → ℕ

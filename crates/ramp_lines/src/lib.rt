@@ -24,7 +24,7 @@ pub fn reply(line: &[u8], out: &mut [u8]) -> usize
             let counts = ramp::from_sheet(sheet, tick, n);
             print::answer(out, letter(sheet), n, counts)
         }
-        Request::Other => print::pair(out, 0, b'E', b'\n'),
+        Request::Other => text::pair(out, 0, b'E', b'\n'),
     }
 }
 

@@ -1,8 +1,8 @@
 // The bytes of a reply, put into a lent buffer of any length.
-ghost use mathlib.Core.List.{[], _∷_};
+ghost use mathlib.Core.List.{_∷_};
 ghost use Rattle.text.specs.Placing.{Wrote};
 ghost use Rattle.text.specs.Printing.{decimal};
-ghost use Rattle.ramp_lines.specs.Replying.{periodsTo, taken, refused, answerBy};
+ghost use Rattle.ramp_lines.specs.Replying.{periodsTo, taken, answerBy};
 use ramp::Counts;
 
 // What the counts say, for the ramp of a letter with n rates.
@@ -14,7 +14,7 @@ pub fn answer(out: &mut [u8], letter: u8, n: u8, counts: Counts) -> usize
             step_cntl0,
             step_cntl1,
         } => taken(out, letter, n, step_cntl0, step_cntl1),
-        Counts::Refused(q) => refused(out, q),
+        Counts::Refused(q) => text::number_line(out, 0, b'N', q as u64),
     }
 }
 
@@ -22,7 +22,7 @@ pub fn answer(out: &mut [u8], letter: u8, n: u8, counts: Counts) -> usize
 fn taken(out: &mut [u8], letter: u8, n: u8, cntl0: u16, cntl1: u16) -> usize
     ensures { λ r. ⌜ Wrote (now (out .entry)) 0 (taken letter n cntl0 cntl1) r (now (out .exit)) ⌝ }
 {
-    let a = pair(out, 0, letter, b' ');
+    let a = text::pair(out, 0, letter, b' ');
     let b = text::word(out, a, cntl0);
     let c = text::put(out, b, b' ');
     let d = text::word(out, c, cntl1);
@@ -42,26 +42,10 @@ fn periods(out: &mut [u8], at: usize, n: u8, cntl0: u16, cntl1: u16) -> usize
     next
 }
 
-fn refused(out: &mut [u8], q: u8) -> usize
-    ensures { λ r. ⌜ Wrote (now (out .entry)) 0 (refused q) r (now (out .exit)) ⌝ }
-{
-    let a = text::put(out, 0, b'N');
-    let b = number(out, a, q as u64);
-    text::put(out, b, b'\n')
-}
-
 // A space and a number.
 fn number(out: &mut [u8], at: usize, n: u64) -> usize
     ensures { λ r. ⌜ Wrote (now (out .entry)) at (32 ∷ decimal n) r (now (out .exit)) ⌝ }
 {
     let a = text::put(out, at, b' ');
     text::decimal(out, a, n)
-}
-
-// A letter and the byte after it.
-pub fn pair(out: &mut [u8], at: usize, letter: u8, next: u8) -> usize
-    ensures { λ r. ⌜ Wrote (now (out .entry)) at (letter ∷ next ∷ []) r (now (out .exit)) ⌝ }
-{
-    let a = text::put(out, at, letter);
-    text::put(out, a, next)
 }

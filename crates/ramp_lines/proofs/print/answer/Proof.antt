@@ -12,8 +12,11 @@ taken-requires c κs = search needs
 enum-known-counts-2 : tie.Need-enum-known-counts-2
 enum-known-counts-2 c = search needs
 
-refused-requires : tie.Need-refused-requires
-refused-requires c κs = search needs
+cast-number-line : tie.Need-cast-number-line
+cast-number-line c = search needs
+
+number-line-requires : tie.Need-number-line-requires
+number-line-requires c κs = search needs
 
 same-length : tie.Need-same-length
 same-length c = search needs
@@ -27,7 +30,7 @@ same-length-2 c = search needs
 
 returns-2 : tie.Need-returns-2
 unfolding answerBy
-returns-2 c = let call = c .before .before in rw (call .before .before .before .counts2 .given .1) (call .refused .ensures)
+returns-2 c = let call = c .before .before in rw (call .before .before .before .counts2 .given .1) (call .number-line .ensures)
 
 pub answer-spec : {M : Type 1} → statement M
 answer-spec =
@@ -36,7 +39,8 @@ answer-spec =
     enum-known-counts
     taken-requires
     enum-known-counts-2
-    refused-requires
+    cast-number-line
+    number-line-requires
     same-length
     returns
     same-length-2

@@ -1,7 +1,7 @@
 use borrow.Author.Needs.{needs}
 use Rattle.text.proofs.PlacingLaws.{also}
-use Rattle.ramp_lines.proofs.print.pair.Statement.{statement}
-use Rattle.ramp_lines.proofs.print.pair.Tie as tie
+use Rattle.text.proofs.pair.Statement.{statement}
+use Rattle.text.proofs.pair.Tie as tie
 
 put-requires : tie.Need-put-requires
 put-requires c κs = search needs
