@@ -3,7 +3,8 @@
  *
  * The unit keeps nothing between calls. Its state is TPU_SM_STATE_WORDS words that the caller owns and lends to each
  * call; reset makes them all 0. Copy them to keep a state, lend the copy to go on from it. Every content of the words is
- * answered, but only what the calls leave there is a state of the unit's history.
+ * answered, but only what the calls leave there is a state of the unit's history. Bits and times that mean nothing at the
+ * moment stay as they are, so two states that behave alike may differ in words.
  *
  * A list is lent as a pointer and a count of words. The pointer is valid for that many words, and not null even where
  * they are 0; the two lists of one call do not overlap. All else is checked by the call: a count other than

@@ -18,6 +18,9 @@ const STARTS: usize = 176;
 const LATE: usize = 179;
 const SET: usize = 195;
 
+/// The bits of the flags that have a meaning.
+const MEANT: u16 = 0x7F;
+
 /// The state that the words stand for. Any words stand for one: bits of the
 /// flags that mean nothing, and times that the phase has no use for, are
 /// passed over.
@@ -68,35 +71,46 @@ fn channel_of(flags: u16, time: u16, set: u16) -> ChannelView {
     }
 }
 
-/// The words that stand for the state, with 0 wherever nothing has a meaning.
-pub fn pack(state: &Snapshot) -> [u16; WORDS] {
-    let mut words = [0; WORDS];
+/// These words after they are made to stand for the state: what has no meaning
+/// stays as it was.
+pub fn lay(state: &Snapshot, words: &mut [u16; WORDS]) {
     words[..REGISTERS].copy_from_slice(&state.words);
     words[REGISTERS..TCR1].copy_from_slice(&state.registers);
     words[TCR1] = state.tcr1;
     words[TCR2] = state.tcr2;
     words[PINS] = state.pins;
     for (c, channel) in state.channels.iter().enumerate() {
-        (words[FLAGS + c], words[TIMES + c], words[SET + c]) = words_of(channel);
+        words[FLAGS + c] = words[FLAGS + c] & !MEANT | flags_of(channel);
+        match channel.phase {
+            Phase::Resting | Phase::Requested => {}
+            Phase::Armed(time) => words[TIMES + c] = time,
+            Phase::Matched { captured, time } => {
+                words[TIMES + c] = captured;
+                words[SET + c] = time;
+            }
+        }
     }
     words[SLOT] = state.slots.slot;
     words[STARTS..LATE].copy_from_slice(&state.slots.starts);
     words[LATE..SET].copy_from_slice(&state.late);
-    words
 }
 
-fn words_of(channel: &ChannelView) -> (u16, u16, u16) {
-    let (phase, time, set) = match channel.phase {
-        Phase::Resting => (0, 0, 0),
-        Phase::Requested => (1, 0, 0),
-        Phase::Armed(time) => (2, time, 0),
-        Phase::Matched { captured, time } => (3, captured, time),
+fn flags_of(channel: &ChannelView) -> u16 {
+    let phase = match channel.phase {
+        Phase::Resting => 0,
+        Phase::Requested => 1,
+        Phase::Armed(_) => 2,
+        Phase::Matched { .. } => 3,
     };
-    let flags = u16::from(channel.initialised)
+    u16::from(channel.initialised)
         | u16::from(channel.level) << 1
         | u16::from(channel.left) << 2
         | phase << 3
         | u16::from(channel.slow) << 5
-        | u16::from(channel.by_tcr2) << 6;
-    (flags, time, set)
+        | u16::from(channel.by_tcr2) << 6
+}
+
+/// The bits without a meaning in the words of flags.
+pub fn unmeant(words: &[u16; WORDS]) -> [u16; 16] {
+    std::array::from_fn(|c| words[FLAGS + c] & !MEANT)
 }

@@ -4,7 +4,7 @@
 use harness::archive::{self, Archive, WRONG_LENGTH};
 use harness::calls::{call_list, perform, Answer, Call, Lent, MARK};
 use harness::compare::{see, Depth, Difference, Seen};
-use harness::packed::{pack, unpack, WORDS};
+use harness::packed::{lay, unmeant, unpack, WORDS};
 use harness::plain::{Plain, CIER, HSRR0, LATE, PARAMETERS};
 use harness::random::Random;
 use harness::unit::Unit;
@@ -67,7 +67,8 @@ fn strange_call(random: &mut Random) -> Call {
 }
 
 /// What is promised of any words: guards, refusals that change nothing, the
-/// rest of the list kept, what is taken left in its packed form.
+/// rest of the list kept, and what has no meaning left as it was: after a
+/// write all of it, after ticks the other bits of the flags.
 fn check_promises(before: &[u16; WORDS], after: &[u16; WORDS], call: Call, seen: &Seen) {
     assert!(seen.intact);
     let documented = match (call, seen.answer) {
@@ -83,7 +84,12 @@ fn check_promises(before: &[u16; WORDS], after: &[u16; WORDS], call: Call, seen:
     assert!(rest.iter().all(|&word| word == MARK));
     if seen.answer == Answer::Done {
         let (old, new) = (unpack(before), unpack(after));
-        assert_eq!(*after, pack(&new));
+        assert_eq!(unmeant(after), unmeant(before));
+        if made == 0 {
+            let mut laid = *before;
+            lay(&new, &mut laid);
+            assert_eq!(*after, laid);
+        }
         assert_eq!(new.tcr1, old.tcr1.wrapping_add(made as u16));
         let rises = (u32::from(old.tcr1) % 8 + made) / 8;
         assert_eq!(new.tcr2, old.tcr2.wrapping_add(rises as u16));

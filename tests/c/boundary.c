@@ -270,7 +270,7 @@ static void lateness(void)
     CHECK(get(TPU_SM_LATE(4)) == 0 && state[TIMES + 4] == 133 && state[SET_TIMES + 4] == 133);
     CHECK(put(TPU_SM_CPR(4), TPU_SM_PRIORITY(4, TPU_SM_ENABLED)) == TPU_SM_TAKEN);
     pass(1);
-    CHECK(get(TPU_SM_LATE(4)) == 20 && state[LATE + 4] == 20 && state[SET_TIMES + 4] == 0);
+    CHECK(get(TPU_SM_LATE(4)) == 20 && state[LATE + 4] == 20 && state[TIMES + 4] == 263);
     refused(TPU_SM_LATE(4), 0, TPU_SM_NO_SUCH_ADDRESS);
     refused(TPU_SM_LATE(15), 0xFFFF, TPU_SM_NO_SUCH_ADDRESS);
     CHECK(tpu_sm_read(state, WORDS, TPU_SM_LATE(4)) == 20 && get(TPU_SM_LATE(5)) == 0);
@@ -295,9 +295,9 @@ static void copies(void)
     CHECK(!memcmp(copy, state, sizeof copy) && !memcmp(list, pins, sizeof list));
 }
 
-/* Words that no call leaves: a refused call keeps them, a taken one drops unused flags, and times of phases without one.
-   Bits 5 and 6 of the flags are for TCR2. A tick brings the slot below 7, and leaves the start of a level that it does not
-   serve. Any number of lateness is one. */
+/* Words that no history gives: a refused call keeps them, and so does a taken one with bits of the flags that mean nothing and
+   with times of phases without one. A tick brings the slot below 7, and leaves the start of a level that it does not serve.
+   Any number of lateness is one. */
 static void odd_words(void)
 {
     begin();
@@ -309,10 +309,10 @@ static void odd_words(void)
     state[SET_TIMES + 3] = 0x1234;
     refused(0xE0B, 0, TPU_SM_NO_SUCH_ADDRESS);
     CHECK(put(TPU_SM_CIER, 0) == TPU_SM_TAKEN);
-    CHECK(state[FLAGS + 3] == 0x60 && state[TIMES + 3] == 0 && state[SET_TIMES + 3] == 0);
+    CHECK(state[FLAGS + 3] == 0xFFE0 && state[TIMES + 3] == 0x1234 && state[SET_TIMES + 3] == 0x1234);
     CHECK(state[SLOT] == 0xFFFF && state[LOW] == 0xABCD);
     CHECK(tpu_sm_advance(state, WORDS, 1, pins, LIST) == TPU_SM_TAKEN);
-    CHECK(state[SLOT] == 2 && state[LOW] == 0xABCD);
+    CHECK(state[SLOT] == 2 && state[LOW] == 0xABCD && state[FLAGS + 3] == 0xFFE0 && state[TIMES + 3] == 0x1234);
     CHECK(state[LATE + 3] == 0xFEDC && get(TPU_SM_LATE(3)) == 0xFEDC);
     CHECK(guards_stand());
 }

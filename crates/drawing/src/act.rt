@@ -1,4 +1,6 @@
 // Each command carried out, and what it draws put at the front of `out`.
+ghost use mathlib.Core.Path.{_≡_};
+ghost use Rattle.unit.specs.OneTick.{tick};
 ghost use Rattle.text.specs.Placing.{Wrote};
 ghost use Rattle.parse.specs.declared.Command.the-variants.{Write, Read, Ticks, Other};
 ghost use Rattle.drawing.specs.Drawing.{Drew, refusalNote};
@@ -75,7 +77,7 @@ pub fn advance(seen: State, state: State, ticks: u64, n: u16, out: &mut [u8]) ->
     let mut s = state;
     let mut at = 0;
     for i in 0..n {
-        s = tick::tick(s);
+        s = ticked(s);
         let count = std::num::wrapping_add_u64(ticks, i as u64 + 1);
         at = wave::changes(out, at, count, old, s);
         old = s;
@@ -86,6 +88,15 @@ pub fn advance(seen: State, state: State, ticks: u64, n: u16, out: &mut [u8]) ->
         ticks: std::num::wrapping_add_u64(ticks, n as u64),
         length: at,
     }
+}
+
+// One tick. Its pin word is in the state too.
+fn ticked(s: State) -> State
+    ensures { λ r. ⌜ r ≡ tick s ⌝ }
+{
+    let mut one = [0u16; 1];
+    let a = tpu::advance(s, 1, &mut one);
+    a.state
 }
 
 fn refusal_note(out: &mut [u8], q: u8) -> usize

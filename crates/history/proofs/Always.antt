@@ -14,7 +14,7 @@ use Rattle.motor.specs.declared.Phase.the-variants.{Matched}
 use Rattle.motor.specs.Group.{timeSet}
 use Rattle.unit.specs.declared.State.{State}
 use Rattle.unit.specs.declared.Channel.{Channel}
-use Rattle.unit.specs.TheUnit.{reg, status, word, hsrrOf, pin, reaches, isBound, last, idle, resetState, request, channel, channelControl, kindIn, pinControl, position, stepping}
+use Rattle.unit.specs.TheUnit.{reg, status, word, hsrrOf, pin, reaches, isBound, last, resetState, request, channel, channelControl, kindIn, pinControl, position, stepping}
 use Rattle.history.specs.OneStep.{isPast, clockOf, IsServed, actsAt, pinAfterMatch, StepIs, StillIs}
 use Rattle.unit.specs.OneTick.{tick}
 use Rattle.unit.specs.Gate.{isTimed, mayInitialise}
@@ -31,7 +31,7 @@ use Rattle.history.proofs.Begin.{unreached, unbound-still}
 use Rattle.history.proofs.Asked.{asked}
 use Rattle.history.proofs.Initialise.{request-done, request-waits, Settled, settled}
 use Rattle.history.proofs.Lit.{Lit, ReachedBy, reached-by, tick-outcome, initialised-pin, lit-tick}
-use Rattle.unit.proofs.Reset.{same-all}
+use Rattle.unit.proofs.Access.{reset-idle}
 use Rattle.unit.proofs.Passing.{time-passes}
 use Rattle.unit.proofs.Questions.{either}
 use Rattle.history.proofs.Fine.{none-stepping, Fine, none-asked, fine-reset, fine-tick}
@@ -67,11 +67,10 @@ unfolding Every
 every-reset p l g = absurd (not-both g (none-stepping p))
 
 lit-reset : Lit resetState
-unfolding channel
 lit-reset =
     record {
       seen = λ p j l g. absurd (not-both g (none-stepping p));
-      rests = λ j l u i. absurd (not-both i (ap (λ (y : Channel). y .initialised) (same-all idle 16 j)));
+      rests = λ j l u i. absurd (not-both i (ap (λ (y : Channel). y .initialised) (reset-idle j)));
       asked = λ j l q. absurd (let k : _≡_ {A = ℕ} 0 2 = sym (none-asked j) ∙ q in omega arith);
     }
 

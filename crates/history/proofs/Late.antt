@@ -19,13 +19,14 @@ use Rattle.motor.proofs.OneTick.{one-tick}
 use Rattle.motor.proofs.Counts.{Timely, on-time, requested-on-time}
 use Rattle.unit.specs.declared.Channel.{Channel}
 use Rattle.unit.specs.declared.State.{State}
-use Rattle.unit.specs.TheUnit.{idle, resetState, channel, stepping}
+use Rattle.unit.specs.TheUnit.{channelAt, standsFor, resetState, channel, stepping}
 use Rattle.unit.specs.OneTick.{serviceIn, tick}
 use Rattle.unit.specs.Pending.{isMatched}
 use Rattle.unit.specs.Answers.{readingWord}
 use Rattle.unit.specs.Calls.{writeOf}
 use Rattle.unit.specs.Readings.{lateWord}
-use Rattle.unit.proofs.Reset.{Sized, same-all}
+use Rattle.unit.proofs.Reset.{Sized}
+use Rattle.unit.proofs.Access.{reset-idle}
 use Rattle.unit.proofs.Readings.{readings}
 use Rattle.unit.proofs.Passing.{timeNext, tick-timers, time-passes}
 use Rattle.unit.proofs.Late.{lateBy, late-tick}
@@ -45,12 +46,11 @@ use Rattle.history.proofs.Term3.{begun, gone-by, count-ahead}
 
 -- what a read gives is what is kept
 read-is : (c : ℕ) (s : State) → c < 16 → lateWord c s ≡ (channel s c) .late
-unfolding readingWord channel
+unfolding readingWord channel channelAt standsFor
 read-is c s h = ap readingWord (readings .late s c h)
 
 zero-at : (c : ℕ) → (channel resetState c) .late ≡ 0
-unfolding channel
-zero-at c = ap (λ (x : Channel). x .late) (same-all idle 16 c)
+zero-at c = ap (λ (x : Channel). x .late) (reset-idle c)
 
 -- ---- a tick
 

@@ -15,13 +15,14 @@ use Rattle.words.specs.Field.{field}
 use Rattle.words.proofs.ChoiceLaws.{pick-cases, not-both, and-left, and-right, fails}
 use Rattle.motor.specs.Group.{bound}
 use Rattle.motor.specs.Count.{Target}
+use Rattle.unit.specs.declared.Latches.{Latches}
 use Rattle.unit.specs.declared.Channel.{Channel}
 use Rattle.unit.specs.declared.State.{State}
 use Rattle.unit.specs.declared.Verdict.{Verdict}
 use Rattle.unit.specs.declared.Verdict.the-variants.{Taken as Does, Refused as Stops}
 use Rattle.unit.specs.declared.Place.{Place}
 use Rattle.unit.specs.declared.Place.the-variants.{AtRegister, AtWord, AtLate, Nowhere}
-use Rattle.unit.specs.TheUnit.{idle, cisr, reg, function, priority, withReg, withRequest, withInitialised, withChannel, withBinding, word, exists, channel, stepping, isBound}
+use Rattle.unit.specs.TheUnit.{channelAt, cisr, reg, function, priority, withReg, withRequest, withInitialised, withChannel, withBinding, word, exists, channel, stepping, isBound}
 use Rattle.unit.specs.OneTick.{tick}
 use Rattle.unit.specs.Gate.{place, gate, requested, Asked, Yes, No, askChannel, askChannels, askRegister, askWord, askPlace, stored, done}
 use Rattle.unit.specs.Calls.{isTaken, writeOf, answeredBy}
@@ -174,7 +175,7 @@ and-yes false = refl
 -- the same words, and the same groups under way
 settles-same : (r : Row) (s w : State) (x : Rest) → w .words ≡ s .words → w .channels ≡ s .channels → Settles r s x → Settles r w x
 unfolding stepping channel word
-settles-same r s w x e f y = settles-alike r s w x (λ j m. (ap (λ (k : List Channel). bound ((getD k j idle) .phase)) f, λ k l. ap (λ (u : List ℕ). getD u (8 * j + k) 0) e)) y
+settles-same r s w x e f y = settles-alike r s w x (λ j m. (ap (λ (k : List Latches). bound ((channelAt k j) .phase)) f, λ k l. ap (λ (u : List ℕ). getD u (8 * j + k) 0) e)) y
 
 module _ (r : Row) (s : State) (x : Rest) (y : Settles r s x) (c : ℕ) where
   -- no request of a step

@@ -4,7 +4,7 @@ use native.Mathlib.Omega.{arith}
 use mathlib.Core.Bool.{true, false}
 use mathlib.Core.List.{List, [], _∷_, _++_}
 use mathlib.Core.Path.{_≡_, refl, sym, subst, _∙_}
-use Rattle.unit.specs.TheUnit.{resetState, withWords, withReg, withTimers, withPins, withChannel, each, all, any, cfsrOf, hsrrOf, cprOf, reg, function, request, withSlots, withRequest, priority, status, withStatus, withPin, channel, withInitialised, withSetUp, withLevel, withPhase, withBinding, withLate, kindIn, word, withWord, exists, channelControl, pinControl, position, target, modCount, nextRate, top, last, cntl0, cntl1, size, motorOf, stepping, reaches, isBound, pin}
+use Rattle.unit.specs.TheUnit.{resetState, phaseFrom, flagsOf, standsFor, timeAfter, setAfter, latched, channelAt, withWords, withReg, withTimers, withPins, withChannel, each, all, any, cfsrOf, hsrrOf, cprOf, reg, function, request, withSlots, withRequest, priority, status, withStatus, withPin, channel, withInitialised, withSetUp, withLevel, withPhase, withBinding, withLate, kindIn, word, withWord, exists, channelControl, pinControl, position, target, modCount, nextRate, top, last, cntl0, cntl1, size, motorOf, stepping, reaches, isBound, pin}
 use Rattle.unit.specs.Stepping.{pinOut, pinsOut, nextCount, turnedOnce, prepared, matchSet, stepped, outcome}
 use Rattle.unit.specs.OneTick.{matchOf, matched, initialise, stepRequest, requestServed, matchServed, served, slotServed, clocked, matches, serviceIn, tick}
 use Rattle.unit.specs.Pending.{isMatched, isWanted, wanted, asksOf}
@@ -52,7 +52,7 @@ record Computed (k : Course) (w : ℕ) : Type 0 where
   pins : (atNow k) .pins ≡ w
 
 computed : Computed (alone 128) 0x0000 × Computed (crowded 128) 0x0003
-unfolding isMatched isWanted wanted asksOf ticked slotLevel begins found highest chosen slots.served withWords withReg withTimers withPins withChannel each all any cfsrOf hsrrOf cprOf reg function request withSlots withRequest priority status withStatus withPin channel withInitialised withSetUp withLevel withPhase withBinding withLate kindIn word withWord exists channelControl pinControl position target modCount nextRate top last cntl0 cntl1 size motorOf stepping reaches isBound pinOut pinsOut nextCount turnedOnce prepared matchSet stepped outcome matchOf matched initialise stepRequest requestServed matchServed served slotServed clocked matches serviceIn tick place isWritten inList isFree isStepper isTimed mayInitialise otherwiseZero spanGood isReady groupReady showsPattern patternGood rampGood quickGood targetGood advanceGood requested askInitialise askStep askChannel andThen askChannels verdictOf keepsOrFree askRegister askWord askPlace gate requestedOne stored done answeredBy writeOf advanceOf ask since due later timeBy onward sameTimer field withField bitOf rotatedRight rotatedLeft period ahead accelerates choice test turn onRequest onMatch beside bound goesTo isTaken felt feltOf feltAt gather newFunction newPriority newRequest actsOf acts does through Typed isStepOf runs stays noAim leavesTargets leavesAll countsOf rise pin Unserved allWords priorityOf inRow
+unfolding isMatched isWanted wanted asksOf ticked slotLevel begins found highest chosen slots.served phaseFrom flagsOf standsFor timeAfter setAfter latched channelAt withWords withReg withTimers withPins withChannel each all any cfsrOf hsrrOf cprOf reg function request withSlots withRequest priority status withStatus withPin channel withInitialised withSetUp withLevel withPhase withBinding withLate kindIn word withWord exists channelControl pinControl position target modCount nextRate top last cntl0 cntl1 size motorOf stepping reaches isBound pinOut pinsOut nextCount turnedOnce prepared matchSet stepped outcome matchOf matched initialise stepRequest requestServed matchServed served slotServed clocked matches serviceIn tick place isWritten inList isFree isStepper isTimed mayInitialise otherwiseZero spanGood isReady groupReady showsPattern patternGood rampGood quickGood targetGood advanceGood requested askInitialise askStep askChannel andThen askChannels verdictOf keepsOrFree askRegister askWord askPlace gate requestedOne stored done answeredBy writeOf advanceOf ask since due later timeBy onward sameTimer field withField bitOf rotatedRight rotatedLeft period ahead accelerates choice test turn onRequest onMatch beside bound goesTo isTaken felt feltOf feltAt gather newFunction newPriority newRequest actsOf acts does through Typed isStepOf runs stays noAim leavesTargets leavesAll countsOf rise pin Unserved allWords priorityOf inRow
 computed = (
   record {
     words = refl;

@@ -3,7 +3,7 @@ use Prim.Native.Nat.{_+_}
 use mathlib.Core.Bool.{Bool, true, false}
 use mathlib.Core.List.{List, [], _∷_, _++_}
 use mathlib.Core.Path.{_≡_, refl, sym, _∙_}
-use Rattle.unit.specs.TheUnit.{resetState, withWords, withReg, withTimers, withPins, withChannel, each, all, any, cfsrOf, hsrrOf, cprOf, reg, function, request, withSlots, withRequest, priority, status, withStatus, withPin, channel, withInitialised, withSetUp, withLevel, withPhase, withBinding, withLate, kindIn, word, withWord, exists, channelControl, pinControl, position, target, modCount, nextRate, top, last, cntl0, cntl1, size, motorOf, stepping, reaches, isBound, pin}
+use Rattle.unit.specs.TheUnit.{resetState, phaseFrom, flagsOf, standsFor, timeAfter, setAfter, latched, channelAt, withWords, withReg, withTimers, withPins, withChannel, each, all, any, cfsrOf, hsrrOf, cprOf, reg, function, request, withSlots, withRequest, priority, status, withStatus, withPin, channel, withInitialised, withSetUp, withLevel, withPhase, withBinding, withLate, kindIn, word, withWord, exists, channelControl, pinControl, position, target, modCount, nextRate, top, last, cntl0, cntl1, size, motorOf, stepping, reaches, isBound, pin}
 use Rattle.unit.specs.Stepping.{pinOut, pinsOut, nextCount, turnedOnce, prepared, matchSet, stepped, outcome}
 use Rattle.unit.specs.OneTick.{matchOf, matched, initialise, stepRequest, requestServed, matchServed, served, slotServed, clocked, matches, serviceIn, tick}
 use Rattle.unit.specs.Pending.{isMatched, isWanted, wanted, asksOf}
@@ -38,7 +38,7 @@ record Computed (before : List Act) (level : Bool) : Type 0 where
   pin : pin (through resetState (before ++ move)) 5 ≡ level
 
 computed : Computed early false × Computed late true
-unfolding isMatched isWanted wanted asksOf ticked slotLevel begins found highest chosen slots.served withWords withReg withTimers withPins withChannel each all any cfsrOf hsrrOf cprOf reg function request withSlots withRequest priority status withStatus withPin channel withInitialised withSetUp withLevel withPhase withBinding withLate kindIn word withWord exists channelControl pinControl position target modCount nextRate top last cntl0 cntl1 size motorOf stepping reaches isBound pinOut pinsOut nextCount turnedOnce prepared matchSet stepped outcome matchOf matched initialise stepRequest requestServed matchServed served slotServed clocked matches serviceIn tick place isWritten inList isFree isStepper isTimed mayInitialise otherwiseZero spanGood isReady groupReady showsPattern patternGood rampGood quickGood targetGood advanceGood requested askInitialise askStep askChannel andThen askChannels verdictOf keepsOrFree askRegister askWord askPlace gate requestedOne stored done answeredBy writeOf ask since due later timeBy onward sameTimer field withField bitOf rotatedRight rotatedLeft period ahead accelerates choice test turn onRequest onMatch beside bound isTaken inRow felt feltOf feltAt gather newFunction newPriority newRequest actsOf acts does through isStepOf noAim leavesTargets leavesAll pin
+unfolding isMatched isWanted wanted asksOf ticked slotLevel begins found highest chosen slots.served phaseFrom flagsOf standsFor timeAfter setAfter latched channelAt withWords withReg withTimers withPins withChannel each all any cfsrOf hsrrOf cprOf reg function request withSlots withRequest priority status withStatus withPin channel withInitialised withSetUp withLevel withPhase withBinding withLate kindIn word withWord exists channelControl pinControl position target modCount nextRate top last cntl0 cntl1 size motorOf stepping reaches isBound pinOut pinsOut nextCount turnedOnce prepared matchSet stepped outcome matchOf matched initialise stepRequest requestServed matchServed served slotServed clocked matches serviceIn tick place isWritten inList isFree isStepper isTimed mayInitialise otherwiseZero spanGood isReady groupReady showsPattern patternGood rampGood quickGood targetGood advanceGood requested askInitialise askStep askChannel andThen askChannels verdictOf keepsOrFree askRegister askWord askPlace gate requestedOne stored done answeredBy writeOf ask since due later timeBy onward sameTimer field withField bitOf rotatedRight rotatedLeft period ahead accelerates choice test turn onRequest onMatch beside bound isTaken inRow felt feltOf feltAt gather newFunction newPriority newRequest actsOf acts does through isStepOf noAim leavesTargets leavesAll pin
 computed = (
   record { heard = refl; starts = record { step = refl; taken = refl; resting = refl }; leaves = refl; pin = refl },
   record { heard = refl; starts = record { step = refl; taken = refl; resting = refl }; leaves = refl; pin = refl },

@@ -1,80 +1,19 @@
--- A state packed gives itself back, and the one after reset is packed as zeros.
-use mathlib.Core.Bool.{Bool, true, false}
+-- A state packed gives itself back, words give back themselves, and the state after reset is packed as zeros.
 use mathlib.Core.Path.{_≡_, refl, sym, ap, _∙_}
-use Prim.Native.Nat.{ℕ, _+_, _-_, _*_, _≤_, _<_}
+use Prim.Native.Nat.{ℕ, _+_, _-_, _<_, _≤_}
 use native.Mathlib.Omega.{arith}
-use mathlib.Core.List.{map}
-use lib.Dec.{eqb}
+use mathlib.Core.List.{List, map}
+use lib.Dec.{ltb}
 use lib.ListN.{length, getD, length-map}
-use borrow.Author.Tests.{eq-eqb}
-use Rattle.words.specs.declared.Timer.{Timer}
-use Rattle.words.specs.declared.Timer.the-variants.{Tcr1, Tcr2}
-use Rattle.words.specs.Field.{field, bitOf, bitValue}
-use Rattle.motor.specs.declared.Way.{Way}
-use Rattle.motor.specs.declared.Way.the-variants.{Right, Left}
-use Rattle.motor.specs.declared.Phase.{Phase}
-use Rattle.motor.specs.declared.Phase.the-variants.{Resting, Requested, Armed, Matched}
-use Rattle.unit.specs.declared.Channel.{Channel}
+use borrow.Author.Tests.{ltb-true, ltb-false}
+use Rattle.words.proofs.ChoiceLaws.{pick-cases}
+use Rattle.unit.specs.declared.Latches.{Latches}
 use Rattle.unit.specs.declared.State.{State}
-use Rattle.unit.specs.TheUnit.{idle, resetState}
+use Rattle.unit.specs.TheUnit.{none, resetState}
 use Rattle.unit.proofs.Reset.{Sized}
-use Rattle.pack.specs.Packing.{tabulate, wayNumber, wayFrom, timerNumber, timerFrom, phaseNumber, timeIn, setTimeIn, phaseFrom, flagsOf, timeOf, setTimeOf, channelFrom, packedWord, packed, zeros, isWhole, wordIn, regIn, channelIn, stateIn, unpacked}
+use Rattle.pack.specs.Packing.{tabulate, packedWord, packed, zeros, wordIn, regIn, latchesIn, stateIn, Holds}
 use Rattle.pack.proofs.Tabled.{length-tabled, tabled-at, tabled-is}
 use Rattle.pack.proofs.Parts.{at-words, at-registers, at-timer, at-second, at-pins, at-flags, at-times, at-slot, at-high, at-middle, at-low, at-lates, at-set-times}
-
--- ---- a channel
-
--- the flags are six numbers side by side
-flags-apart : (a b c d e f : ℕ) → a ≤ 1 → b ≤ 1 → c ≤ 1 → d ≤ 3 → e ≤ 1 → f ≤ 1
-    → let w : ℕ = a + 2 * b + 4 * c + 8 * d + 32 * e + 64 * f in
-    (field 1 w 0 ≡ a) × (field 1 w 1 ≡ b) × (field 1 w 2 ≡ c) × (field 2 w 3 ≡ d) × (field 1 w 5 ≡ e) × (field 1 w 6 ≡ f)
-unfolding field
-flags-apart a b c d e f ha hb hc hd he hf = (omega arith, omega arith, omega arith, omega arith, omega arith, omega arith)
-
-bit-small : (b : Bool) → bitValue b ≤ 1
-bit-small true = omega arith
-bit-small false = omega arith
-
-way-small : (w : Way) → wayNumber w ≤ 1
-way-small Right = omega arith
-way-small Left = omega arith
-
-timer-small : (k : Timer) → timerNumber k ≤ 1
-timer-small Tcr1 = omega arith
-timer-small Tcr2 = omega arith
-
-phase-small : (p : Phase) → phaseNumber p ≤ 3
-phase-small Resting = omega arith
-phase-small Requested = omega arith
-phase-small (Armed time) = omega arith
-phase-small (Matched captured time) = omega arith
-
-bit-back : (b : Bool) → eqb (bitValue b) 1 ≡ b
-bit-back true = refl
-bit-back false = refl
-
-way-back : (w : Way) → wayFrom (eqb (wayNumber w) 1) ≡ w
-way-back Right = refl
-way-back Left = refl
-
-timer-back : (k : Timer) → timerFrom (eqb (timerNumber k) 1) ≡ k
-timer-back Tcr1 = refl
-timer-back Tcr2 = refl
-
-phase-back : (p : Phase) → phaseFrom (phaseNumber p) (timeIn p) (setTimeIn p) ≡ p
-unfolding phaseFrom
-phase-back Resting = refl
-phase-back Requested = refl
-phase-back (Armed time) = refl
-phase-back (Matched captured time) = refl
-
-channel-back : (x : Channel) → channelFrom (flagsOf x) (timeOf x) (x .late) (setTimeOf x) ≡ x
-unfolding channelFrom flagsOf timeOf setTimeOf bitOf
-channel-back x =
-    let parts = flags-apart (bitValue (x .initialised)) (bitValue (x .level)) (wayNumber (x .way)) (phaseNumber (x .phase)) (timerNumber (x .kind)) (timerNumber (x .timer)) (bit-small (x .initialised)) (bit-small (x .level)) (way-small (x .way)) (phase-small (x .phase)) (timer-small (x .kind)) (timer-small (x .timer)) in
-    rw (parts .0, parts .1, parts .2, parts .3, parts .4, parts .5, bit-back (x .initialised), bit-back (x .level), way-back (x .way), phase-back (x .phase), timer-back (x .kind), timer-back (x .timer))
-
--- ---- a state
 
 word-of : (st : State) (i : ℕ) → i < 211 → getD (packed st) i 0 ≡ packedWord st i
 unfolding packed
@@ -91,24 +30,24 @@ regs-back st z = tabled-is _ 0 (st .regs) 12 (z .regs) each
         let e : 128 + i - 128 ≡ i = omega arith in
         word-of st (128 + i) (omega arith) ∙ sym (at-registers st (128 + i) (omega arith) (omega arith)) ∙ ap (λ (k : ℕ). getD (st .regs) k 0) e
 
-channels-back : (st : State) → Sized st → tabulate 16 (channelIn (packed st)) ≡ st .channels
-channels-back st z = tabled-is _ idle (st .channels) 16 (z .channels) each
+channels-back : (st : State) → Sized st → tabulate 16 (latchesIn (packed st)) ≡ st .channels
+channels-back st z = tabled-is _ none (st .channels) 16 (z .channels) each
   where
-    each : (i : ℕ) → i < 16 → channelIn (packed st) i ≡ getD (st .channels) i idle
+    each : (i : ℕ) → i < 16 → latchesIn (packed st) i ≡ getD (st .channels) i none
     each i h =
-        let x = getD (st .channels) i idle in
+        let x = getD (st .channels) i none in
         let e : 143 + i - 143 ≡ i = omega arith in
         let f : 159 + i - 159 ≡ i = omega arith in
-        let flags : getD (packed st) (143 + i) 0 ≡ flagsOf x = word-of st (143 + i) (omega arith) ∙ sym (at-flags st (143 + i) (omega arith) (omega arith)) ∙ ap (λ (k : ℕ). flagsOf (getD (st .channels) k idle)) e in
-        let time : getD (packed st) (159 + i) 0 ≡ timeOf x =
-        word-of st (159 + i) (omega arith) ∙ sym (at-times st (159 + i) (omega arith) (omega arith)) ∙ ap (λ (k : ℕ). timeOf (getD (st .channels) k idle)) f in
+        let flags : getD (packed st) (143 + i) 0 ≡ x .flags = word-of st (143 + i) (omega arith) ∙ sym (at-flags st (143 + i) (omega arith) (omega arith)) ∙ ap (λ (k : ℕ). (getD (st .channels) k none) .flags) e in
+        let time : getD (packed st) (159 + i) 0 ≡ x .time =
+        word-of st (159 + i) (omega arith) ∙ sym (at-times st (159 + i) (omega arith) (omega arith)) ∙ ap (λ (k : ℕ). (getD (st .channels) k none) .time) f in
         let g : 179 + i - 179 ≡ i = omega arith in
         let j : 195 + i - 195 ≡ i = omega arith in
         let late : getD (packed st) (179 + i) 0 ≡ x .late =
-        word-of st (179 + i) (omega arith) ∙ sym (at-lates st (179 + i) (omega arith) (omega arith)) ∙ ap (λ (k : ℕ). (getD (st .channels) k idle) .late) g in
-        let set-time : getD (packed st) (195 + i) 0 ≡ setTimeOf x =
-        word-of st (195 + i) (omega arith) ∙ sym (at-set-times st (195 + i) (omega arith)) ∙ ap (λ (k : ℕ). setTimeOf (getD (st .channels) k idle)) j in
-        rw (flags, time, late, set-time) (channel-back x)
+        word-of st (179 + i) (omega arith) ∙ sym (at-lates st (179 + i) (omega arith) (omega arith)) ∙ ap (λ (k : ℕ). (getD (st .channels) k none) .late) g in
+        let set-time : getD (packed st) (195 + i) 0 ≡ x .set =
+        word-of st (195 + i) (omega arith) ∙ sym (at-set-times st (195 + i) (omega arith)) ∙ ap (λ (k : ℕ). (getD (st .channels) k none) .set) j in
+        rw (flags, time, late, set-time)
 
 in-back : (st : State) → Sized st → stateIn (packed st) ≡ st
 unfolding stateIn
@@ -122,19 +61,47 @@ in-back st z =
     let d : getD (packed st) 178 0 ≡ st .slots .low = word-of st 178 (omega arith) ∙ sym (at-low st) in
     rw (words-back st z, regs-back st z, t, u, p, channels-back st z, a, b, c, d)
 
-whole-packed : (st : State) → isWhole (packed st) ≡ true
-unfolding isWhole packed
-whole-packed st = eq-eqb _ 211 (length-tabled (packedWord st) 211)
-
-back : (st : State) → Sized st → unpacked (packed st) ≡ st
-unfolding unpacked
-back st z = rw (whole-packed st) (in-back st z)
-
 -- for a state of the type: what owning it tells of its channels is the length of a list made from theirs
-pub back-owned : {Y : Type 0} (f : Channel → Y) (st : State) → length (st .words) ≡ 128 → length (st .regs) ≡ 12 → length (map f (st .channels)) ≡ 16 → unpacked (packed st) ≡ st
-back-owned f st words regs channels =
-    back st record { words = words; regs = regs; channels = sym (length-map (st .channels) f) ∙ channels }
+pub held-owned : {Y : Type 0} (f : Latches → Y) (st : State) → length (st .words) ≡ 128 → length (st .regs) ≡ 12 → length (map f (st .channels)) ≡ 16 → Holds (packed st) st
+unfolding packed
+held-owned f st words regs channels =
+    (length-tabled (packedWord st) 211, in-back st record { words = words; regs = regs; channels = sym (length-map (st .channels) f) ∙ channels })
 
 pub reset-zeros : packed resetState ≡ zeros
-unfolding zeros packed tabulate packedWord flagsOf timeOf setTimeOf
+unfolding zeros packed tabulate packedWord
 reset-zeros = refl
+
+-- ---- words
+
+-- every word has its place in the state that the words hold
+module _ (s : List ℕ) where
+  is-at : (j i : ℕ) → j ≡ i → getD s j 0 ≡ getD s i 0
+  is-at j i e = ap (λ (k : ℕ). getD s k 0) e
+
+  kept-at : (f : Latches → ℕ) (i from : ℕ) → from ≤ i → i < from + 16 → f (getD (tabulate 16 (latchesIn s)) (i - from) none) ≡ f (latchesIn s (i - from))
+  kept-at f i from l h = ap f (tabled-at (latchesIn s) none 16 (i - from) (omega arith))
+
+  word-back : (i : ℕ) → i < 211 → packedWord (stateIn s) i ≡ getD s i 0
+  unfolding packedWord stateIn
+  word-back i h =
+      pick-cases Is (ltb i 128) (λ t. tabled-at (wordIn s) 0 128 i (ltb-true i 128 t))
+      (λ t. pick-cases Is (ltb i 140) (λ u. tabled-at (regIn s) 0 12 (i - 128) (omega (arith, ltb-false i 128 t, ltb-true i 140 u)) ∙ is-at (128 + (i - 128)) i (omega (arith, ltb-false i 128 t)))
+      (λ u. pick-cases Is (ltb i 141) (λ v. is-at 140 i (omega (arith, ltb-false i 140 u, ltb-true i 141 v)))
+      (λ v. pick-cases Is (ltb i 142) (λ w. is-at 141 i (omega (arith, ltb-false i 141 v, ltb-true i 142 w)))
+      (λ w. pick-cases Is (ltb i 143) (λ a. is-at 142 i (omega (arith, ltb-false i 142 w, ltb-true i 143 a)))
+      (λ a. pick-cases Is (ltb i 159) (λ b. kept-at (λ (k : Latches). k .flags) i 143 (ltb-false i 143 a) (ltb-true i 159 b) ∙ is-at (143 + (i - 143)) i (omega (arith, ltb-false i 143 a)))
+      (λ b. pick-cases Is (ltb i 175) (λ c. kept-at (λ (k : Latches). k .time) i 159 (ltb-false i 159 b) (ltb-true i 175 c) ∙ is-at (159 + (i - 159)) i (omega (arith, ltb-false i 159 b)))
+      (λ c. pick-cases Is (ltb i 176) (λ d. is-at 175 i (omega (arith, ltb-false i 175 c, ltb-true i 176 d)))
+      (λ d. pick-cases Is (ltb i 177) (λ e. is-at 176 i (omega (arith, ltb-false i 176 d, ltb-true i 177 e)))
+      (λ e. pick-cases Is (ltb i 178) (λ f. is-at 177 i (omega (arith, ltb-false i 177 e, ltb-true i 178 f)))
+      (λ f. pick-cases Is (ltb i 179) (λ g. is-at 178 i (omega (arith, ltb-false i 178 f, ltb-true i 179 g)))
+      (λ g. pick-cases Is (ltb i 195) (λ j. kept-at (λ (k : Latches). k .late) i 179 (ltb-false i 179 g) (ltb-true i 195 j) ∙ is-at (179 + (i - 179)) i (omega (arith, ltb-false i 179 g)))
+      (λ j. kept-at (λ (k : Latches). k .set) i 195 (ltb-false i 195 j) h ∙ is-at (195 + (i - 195)) i (omega (arith, ltb-false i 195 j))))))))))))))
+    where
+      Is : ℕ → Type 0
+      Is x = x ≡ getD s i 0
+
+-- so the words are fixed by the state that they hold
+pub exact : (s : List ℕ) → length s ≡ 211 → packed (stateIn s) ≡ s
+unfolding packed
+exact s z = tabled-is (packedWord (stateIn s)) 0 s 211 z (λ i h. word-back s i h)

@@ -5,8 +5,8 @@ use native.Mathlib.Omega.{arith}
 use lib.ListN.{getD}
 use borrow.Author.Tests.{lt-ltb, le-ltb}
 use Rattle.unit.specs.declared.State.{State}
-use Rattle.unit.specs.TheUnit.{idle}
-use Rattle.pack.specs.Packing.{packedWord, flagsOf, timeOf, setTimeOf}
+use Rattle.unit.specs.TheUnit.{none}
+use Rattle.pack.specs.Packing.{packedWord}
 
 pub at-words : (st : State) (i : ℕ) → i < 128 → getD (st .words) i 0 ≡ packedWord st i
 unfolding packedWord
@@ -28,11 +28,11 @@ pub at-pins : (st : State) → st .pins ≡ packedWord st 142
 unfolding packedWord
 at-pins st = refl
 
-pub at-flags : (st : State) (i : ℕ) → 143 ≤ i → i < 159 → flagsOf (getD (st .channels) (i - 143) idle) ≡ packedWord st i
+pub at-flags : (st : State) (i : ℕ) → 143 ≤ i → i < 159 → (getD (st .channels) (i - 143) none) .flags ≡ packedWord st i
 unfolding packedWord
 at-flags st i l h = simp (le-ltb i 128 (omega arith), le-ltb i 140 (omega arith), le-ltb i 141 (omega arith), le-ltb i 142 (omega arith), le-ltb i 143 l, lt-ltb i 159 h)
 
-pub at-times : (st : State) (i : ℕ) → 159 ≤ i → i < 175 → timeOf (getD (st .channels) (i - 159) idle) ≡ packedWord st i
+pub at-times : (st : State) (i : ℕ) → 159 ≤ i → i < 175 → (getD (st .channels) (i - 159) none) .time ≡ packedWord st i
 unfolding packedWord
 at-times st i l h =
     simp (
@@ -61,7 +61,7 @@ pub at-low : (st : State) → st .slots .low ≡ packedWord st 178
 unfolding packedWord
 at-low st = refl
 
-pub at-lates : (st : State) (i : ℕ) → 179 ≤ i → i < 195 → (getD (st .channels) (i - 179) idle) .late ≡ packedWord st i
+pub at-lates : (st : State) (i : ℕ) → 179 ≤ i → i < 195 → (getD (st .channels) (i - 179) none) .late ≡ packedWord st i
 unfolding packedWord
 at-lates st i l h =
     simp (
@@ -79,7 +79,7 @@ at-lates st i l h =
       lt-ltb i 195 h,
     )
 
-pub at-set-times : (st : State) (i : ℕ) → 195 ≤ i → setTimeOf (getD (st .channels) (i - 195) idle) ≡ packedWord st i
+pub at-set-times : (st : State) (i : ℕ) → 195 ≤ i → (getD (st .channels) (i - 195) none) .set ≡ packedWord st i
 unfolding packedWord
 at-set-times st i l =
     simp (

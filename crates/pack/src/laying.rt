@@ -2,7 +2,6 @@
 ghost use mathlib.Core.Path.{_≡_};
 ghost use lib.ListN.{length, take};
 ghost use Rattle.pack.specs.Packing.{tabulate, packedWord, packed};
-use crate::channels;
 use unit::State;
 
 fn lay_words(st: State, s: &mut [u16])
@@ -44,7 +43,7 @@ fn lay_flags(st: State, s: &mut [u16])
     let mut i: usize = 143;
     while i < 159 {
         let x = st.channels[i - 143];
-        s[i] = channels::flags_of(x);
+        s[i] = x.flags;
         i = i + 1;
     }
 }
@@ -56,7 +55,7 @@ fn lay_times(st: State, s: &mut [u16])
     let mut i: usize = 159;
     while i < 175 {
         let x = st.channels[i - 159];
-        s[i] = channels::time_of(x);
+        s[i] = x.time;
         i = i + 1;
     }
 }
@@ -92,7 +91,7 @@ fn lay_set_times(st: State, s: &mut [u16])
     let mut i: usize = 195;
     while i < 211 {
         let x = st.channels[i - 195];
-        s[i] = channels::set_time_of(x);
+        s[i] = x.set;
         i = i + 1;
     }
 }

@@ -1,10 +1,10 @@
 // The state out of 211 words.
 ghost use mathlib.Core.Path.{_≡_};
+ghost use Prim.Native.Nat.{_<_};
 ghost use lib.ListN.{length};
-ghost use Rattle.pack.specs.Packing.{tabulate, wordIn, regIn, channelIn, stateIn};
-use crate::channels;
+ghost use Rattle.pack.specs.Packing.{tabulate, wordIn, regIn, latchesIn, stateIn};
 use slots::Slots;
-use unit::Channel;
+use unit::Latches;
 use unit::State;
 use words::Timers;
 
@@ -30,13 +30,25 @@ fn regs_in(s: &[u16]) -> [u16; 12]
     w
 }
 
-fn channels_in(s: &[u16]) -> [Channel; 16]
-    requires { ⌜ length (now s) ≡ 211 ⌝ }
-    ensures { λ r. ⌜ r ≡ tabulate 16 (channelIn (now (s .entry))) ⌝ }
+fn latches_in(s: &[u16], i: usize) -> Latches
+    requires { ⌜ (length (now s) ≡ 211) × (i < 16) ⌝ }
+    ensures { λ r. ⌜ r ≡ latchesIn (now (s .entry)) i ⌝ }
 {
-    let mut w = [Channel::IDLE; 16];
+    Latches {
+        flags: s[143 + i],
+        time: s[159 + i],
+        late: s[179 + i],
+        set: s[195 + i],
+    }
+}
+
+fn channels_in(s: &[u16]) -> [Latches; 16]
+    requires { ⌜ length (now s) ≡ 211 ⌝ }
+    ensures { λ r. ⌜ r ≡ tabulate 16 (latchesIn (now (s .entry))) ⌝ }
+{
+    let mut w = [Latches::NONE; 16];
     for i in 0..16 {
-        w[i] = channels::channel_from(s[143 + i], s[159 + i], s[179 + i], s[195 + i]);
+        w[i] = latches_in(s, i);
     }
     w
 }

@@ -1,11 +1,10 @@
-// The questions put for a channel. Question 2 is `group::is_free`.
+// The questions put for a channel, of the state that lent words hold. Question 2 is `binding::is_free`.
 ghost use mathlib.Core.Path.{_≡_};
 ghost use Prim.Native.Nat.{_<_};
+ghost use lib.ListN.{length};
 ghost use Rattle.unit.specs.TheUnit.{all, size, modCount};
 ghost use Rattle.unit.specs.Gate.{isStepper, isTimed, mayInitialise, otherwiseZero, spanGood, isReady, groupReady, showsPattern, patternGood, rampGood, quickGood, targetGood};
-use access::parameters;
-use access::records;
-use access::registers;
+ghost use Rattle.pack.specs.Packing.{stateWords, stateIn};
 use motor::step;
 use unit::State;
 use words::Timer;
@@ -17,8 +16,9 @@ use words::rotation;
 const MIN_PERIOD: u16 = 128;
 
 // Question 3.
-pub fn is_stepper(s: State, c: u16) -> bool
-    ensures { λ r. ⌜ r ≡ isStepper s c ⌝ }
+pub fn is_stepper(s: &[u16], c: u16) -> bool
+    requires { ⌜ (length (now s) ≡ stateWords) × (c < 16) ⌝ }
+    ensures { λ r. ⌜ r ≡ isStepper (stateIn (now (s .entry))) c ⌝ }
 {
     registers::function(s, c) == State::STEPPER
 }
@@ -35,14 +35,15 @@ fn is_timed(control: u16) -> bool
 }
 
 // Question 4: CHANNEL_CONTROL forces the pin to the level that PIN_CONTROL has first.
-pub fn may_initialise(s: State, c: u16) -> bool
-    ensures { λ r. ⌜ r ≡ mayInitialise s c ⌝ }
+pub fn may_initialise(s: &[u16], c: u16) -> bool
+    requires { ⌜ (length (now s) ≡ stateWords) × (c < 16) ⌝ }
+    ensures { λ r. ⌜ r ≡ mayInitialise (stateIn (now (s .entry))) c ⌝ }
 {
-    let control = parameters::word(s, c, 0);
+    let control = cells::word(s, c, 0);
     if !is_timed(control) {
         return false;
     }
-    if field::bit(parameters::word(s, c, 1), 15) {
+    if field::bit(cells::word(s, c, 1), 15) {
         return field::pair(control, 0) == 1;
     }
     field::pair(control, 0) == 2
@@ -59,12 +60,13 @@ fn otherwise_zero(w: u16) -> bool
 }
 
 // Question 5.
-pub fn span_good(s: State, c: u16) -> bool
-    ensures { λ r. ⌜ r ≡ spanGood s c ⌝ }
+pub fn span_good(s: &[u16], c: u16) -> bool
+    requires { ⌜ (length (now s) ≡ stateWords) × (c < 16) ⌝ }
+    ensures { λ r. ⌜ r ≡ spanGood (stateIn (now (s .entry))) c ⌝ }
 {
-    let n = parameters::top(s, c);
-    let l = parameters::last(s, c);
-    if !otherwise_zero(parameters::word(s, c, 5)) {
+    let n = fields::top(s, c);
+    let l = fields::last(s, c);
+    if !otherwise_zero(cells::word(s, c, 5)) {
         return false;
     }
     if n < 1 {
@@ -80,30 +82,30 @@ pub fn span_good(s: State, c: u16) -> bool
 }
 
 // What question 6 asks of each channel of a group whose primary is of this kind.
-fn is_ready(s: State, kind: Timer, j: u16) -> bool
-    ensures { λ r. ⌜ r ≡ isReady s kind j ⌝ }
+fn is_ready(s: &[u16], kind: Timer, j: u16) -> bool
+    requires { ⌜ (length (now s) ≡ stateWords) × (j < 16) ⌝ }
+    ensures { λ r. ⌜ r ≡ isReady (stateIn (now (s .entry))) kind j ⌝ }
 {
     if !is_stepper(s, j) {
         return false;
     }
-    let x = records::channel(s, j);
-    if !x.initialised {
+    if !cells::initialised(s, j) {
         return false;
     }
-    if !group::is_free(s, j) {
+    if !binding::is_free(s, j) {
         return false;
     }
-    let own = x.kind;
+    let own = cells::kind(s, j);
     clock::same(own, kind)
 }
 
 // Question 6.
-pub fn group_ready(s: State, c: u16) -> bool
-    ensures { λ r. ⌜ r ≡ groupReady s c ⌝ }
+pub fn group_ready(s: &[u16], c: u16) -> bool
+    requires { ⌜ (length (now s) ≡ stateWords) × (c < 16) ⌝ }
+    ensures { λ r. ⌜ r ≡ groupReady (stateIn (now (s .entry))) c ⌝ }
 {
-    let n = group::size(s, c);
-    let x = records::channel(s, c);
-    let kind = x.kind;
+    let n = fields::size(s, c);
+    let kind = cells::kind(s, c);
     let mut ready = true;
     for k in 0..n {
         if !is_ready(s, kind, c + k) {
@@ -114,19 +116,20 @@ pub fn group_ready(s: State, c: u16) -> bool
 }
 
 // The channel j shows its PIN_CONTROL turned right by m places.
-fn shows_pattern(s: State, m: u16, j: u16) -> bool
-    requires { ⌜ m < 16 ⌝ }
-    ensures { λ r. ⌜ r ≡ showsPattern s m j ⌝ }
+fn shows_pattern(s: &[u16], m: u16, j: u16) -> bool
+    requires { ⌜ (length (now s) ≡ stateWords) × (m < 16) × (j < 16) ⌝ }
+    ensures { λ r. ⌜ r ≡ showsPattern (stateIn (now (s .entry))) m j ⌝ }
 {
-    parameters::word(s, j, 0) == rotation::rotate(parameters::word(s, j, 1), m)
+    cells::word(s, j, 0) == rotation::rotate(cells::word(s, j, 1), m)
 }
 
 // Each channel of the group shows its pattern turned by the primary's MOD_CNT.
-fn group_shows(s: State, c: u16) -> bool
-    ensures { λ r. ⌜ r ≡ all (size s c) c (showsPattern s (modCount s c)) ⌝ }
+fn group_shows(s: &[u16], c: u16) -> bool
+    requires { ⌜ (length (now s) ≡ stateWords) × (c < 16) ⌝ }
+    ensures { λ r. ⌜ r ≡ all (size (stateIn (now (s .entry))) c) c (showsPattern (stateIn (now (s .entry))) (modCount (stateIn (now (s .entry))) c)) ⌝ }
 {
-    let n = group::size(s, c);
-    let m = parameters::mod_count(s, c);
+    let n = fields::size(s, c);
+    let m = fields::mod_count(s, c);
     let mut shown = true;
     for k in 0..n {
         if !shows_pattern(s, m, c + k) {
@@ -137,13 +140,14 @@ fn group_shows(s: State, c: u16) -> bool
 }
 
 // Question 7.
-pub fn pattern_good(s: State, c: u16) -> bool
-    ensures { λ r. ⌜ r ≡ patternGood s c ⌝ }
+pub fn pattern_good(s: &[u16], c: u16) -> bool
+    requires { ⌜ (length (now s) ≡ stateWords) × (c < 16) ⌝ }
+    ensures { λ r. ⌜ r ≡ patternGood (stateIn (now (s .entry))) c ⌝ }
 {
-    if !otherwise_zero(parameters::word(s, c, 4)) {
+    if !otherwise_zero(cells::word(s, c, 4)) {
         return false;
     }
-    if parameters::next_rate(s, c) != 1 {
+    if fields::next_rate(s, c) != 1 {
         return false;
     }
     group_shows(s, c)
@@ -167,8 +171,9 @@ pub fn quick_good(cntl0: u16, cntl1: u16, n: u16) -> bool
 }
 
 // Question 9.
-pub fn target_good(s: State, c: u16, t: u16) -> bool
-    ensures { λ r. ⌜ r ≡ targetGood s c t ⌝ }
+pub fn target_good(s: &[u16], c: u16, t: u16) -> bool
+    requires { ⌜ (length (now s) ≡ stateWords) × (c < 16) ⌝ }
+    ensures { λ r. ⌜ r ≡ targetGood (stateIn (now (s .entry))) c t ⌝ }
 {
-    t <= State::LAST_POSITION - parameters::top(s, c)
+    t <= State::LAST_POSITION - fields::top(s, c)
 }

@@ -1,22 +1,18 @@
 // How many ticks pass from a state in which nothing happens but that the timers and the slot go on, and the state after them.
 ghost use mathlib.Core.Path.{_≡_};
-ghost use Prim.Native.Nat.{min, _*_, _%_};
-ghost use lib.ListN.{getD};
-ghost use Rattle.words.specs.Choice.{pick};
+ghost use Prim.Native.Nat.{min, _<_};
+ghost use lib.ListN.{length};
 ghost use Rattle.words.specs.Clock.{onward};
-ghost use Rattle.words.specs.Field.{field};
 ghost use Rattle.slots.specs.Slots.{idled};
-ghost use Rattle.unit.specs.TheUnit.{withTimers, withSlots, cprOf, hsrrOf};
-ghost use Rattle.unit.specs.Pending.{isWanted};
-ghost use Rattle.unit.specs.Quiet.{untilDue, waits, quietBelow};
-use access::registers;
+ghost use Rattle.unit.specs.TheUnit.{withTimers, withSlots};
+ghost use Rattle.unit.specs.Quiet.{untilDue, waits, quietAt, quietBelow};
+ghost use Rattle.pack.specs.Packing.{stateWords, stateIn, Holds};
 use channel::pending;
 use motor::Phase;
 use unit::State;
 use words::Timer;
 use words::Timers;
 use words::clock;
-use words::field;
 
 // Before the tick in which a match set for `time` is due.
 fn until_due(time: u16, timer: Timer, timers: Timers) -> u32
@@ -45,16 +41,17 @@ fn waits(p: Phase, timer: Timer, timers: Timers) -> u32
     }
 }
 
-// In channel c with these registers, its group in this phase and by this timer.
-fn quiet_in(regs: [u16; 12], c: u16, p: Phase, timer: Timer, timers: Timers) -> u32
-    ensures { λ r. ⌜ r ≡ pick (isWanted (field 2 (getD regs (cprOf c) 0) (2 * (c % 8))) (field 2 (getD regs (hsrrOf c) 0) (2 * (c % 8))) p) 0 (waits p timer timers) ⌝ }
+// In channel c.
+fn quiet_at(s: &[u16], c: u16) -> u32
+    requires { ⌜ (length (now s) ≡ stateWords) × (c < 16) ⌝ }
+    ensures { λ r. ⌜ r ≡ quietAt (stateIn (now (s .entry))) c ⌝ }
 {
-    let cpr = regs[registers::cpr_of(c) as usize];
-    let hsrr = regs[registers::hsrr_of(c) as usize];
-    if pending::is_wanted(field::pair(cpr, c), field::pair(hsrr, c), p) {
+    let phase = cells::phase(s, c);
+    if pending::is_wanted(registers::priority(s, c), registers::request(s, c), phase) {
         return 0;
     }
-    waits(p, timer, timers)
+    let timer = cells::timer(s, c);
+    waits(phase, timer, cells::timers(s))
 }
 
 fn lesser(a: u32, b: u32) -> u32
@@ -64,16 +61,13 @@ fn lesser(a: u32, b: u32) -> u32
 }
 
 // In all channels, at most as many as there is room for. Where motors step often the first of them answers for all.
-pub fn quiet_ticks(s: State, room: u16) -> u16
-    ensures { λ r. ⌜ r ≡ min (quietBelow 16 s) room ⌝ }
+pub fn quiet_ticks(s: &[u16], room: u16) -> u16
+    requires { ⌜ length (now s) ≡ stateWords ⌝ }
+    ensures { λ r. ⌜ r ≡ min (quietBelow 16 (stateIn (now (s .entry)))) room ⌝ }
 {
     let mut q: u32 = State::MAX_TICKS;
     for c in 0..16 {
-        let x = s.channels[c as usize];
-        let phase = x.phase;
-        let timer = x.timer;
-        let timers = s.timers;
-        q = lesser(q, quiet_in(s.regs, c, phase, timer, timers));
+        q = lesser(q, quiet_at(s, c));
         if q == 0 {
             return 0;
         }
@@ -81,13 +75,22 @@ pub fn quiet_ticks(s: State, room: u16) -> u16
     lesser(q, room as u32) as u16
 }
 
-// After so many of them.
-pub fn passed(mut s: State, q: u16) -> State
-    ensures { λ r. ⌜ r ≡ withSlots (withTimers s (onward q (s .timers))) (idled q (s .slots)) ⌝ }
+// The law of quiet ticks asks that both timers are words: they are.
+fn present(s: &[u16]) -> Timers
+    requires { ⌜ length (now s) ≡ stateWords ⌝ }
+    ensures { λ r. ⌜ (r ≡ (stateIn (now (s .entry))) .timers) × (r .tcr1 < 65536) × (r .tcr2 < 65536) ⌝ }
 {
-    let timers = s.timers;
-    s.timers = clock::onward(q, timers);
-    let slots = s.slots;
-    s.slots = slots.idled(q);
-    s
+    cells::timers(s)
+}
+
+// After so many of them.
+pub fn pass(s: &mut [u16], q: u16)
+    requires { ⌜ length (now s) ≡ stateWords ⌝ }
+    ensures { λ _. ⌜ Holds (now (s .exit)) (withSlots (withTimers (stateIn (now (s .entry))) (onward q ((stateIn (now (s .entry))) .timers))) (idled q ((stateIn (now (s .entry))) .slots)))
+        × ((stateIn (now (s .entry))) .timers .tcr1 < 65536) × ((stateIn (now (s .entry))) .timers .tcr2 < 65536) ⌝ }
+{
+    let timers = clock::onward(q, present(s));
+    let slots = cells::slots(s);
+    stores::put_timers(s, timers);
+    stores::put_slots(s, slots.idled(q));
 }

@@ -42,9 +42,11 @@ pub fn chosen(store: &[u8], which: Which) -> Chosen
 fn all_free(s: State) -> bool
     ensures { λ r. ⌜ r ≡ allFree s ⌝ }
 {
+    let mut w = [0u16; pack::layout::WORDS];
+    pack::pack(s, &mut w);
     let mut free = true;
     for c in 0..16 {
-        free = free & group::is_free(s, c);
+        free = free & binding::is_free(&w, c);
     }
     free
 }

@@ -1,10 +1,13 @@
 // The values of what is shown of a state, put into a lent buffer of any length: each function takes the place to begin at and
 // answers the next.
 ghost use mathlib.Core.Path.{_≡_};
+ghost use Prim.Native.Nat.{_<_};
+ghost use lib.ListN.{length};
 ghost use Rattle.text.specs.Placing.{Wrote};
 ghost use Rattle.words.specs.Field.{bitValue};
+ghost use Rattle.pack.specs.Packing.{stateWords, stateIn};
 ghost use Rattle.signals.specs.Signals.{positionOf, binary, vector, wireValue, vectorValue, pinValues, positionValues, values};
-use access::parameters;
+use pack::layout;
 use unit::State;
 use words::field;
 
@@ -12,6 +15,10 @@ use words::field;
 pub fn values(out: &mut [u8], at: usize, all: bool, old: State, s: State) -> usize
     ensures { λ r. ⌜ Wrote (now (out .entry)) at (values all old s) r (now (out .exit)) ⌝ }
 {
+    let mut old_words = [0u16; layout::WORDS];
+    pack::pack(old, &mut old_words);
+    let mut new_words = [0u16; layout::WORDS];
+    pack::pack(s, &mut new_words);
     let a = pins(out, at, all, old.pins, s.pins);
     let b = vector_value(
         out,
@@ -21,13 +28,13 @@ pub fn values(out: &mut [u8], at: usize, all: bool, old: State, s: State) -> usi
         s.timers.tcr1 as u32,
         b'!',
     );
-    let c = positions(out, b, all, old, s);
+    let c = positions(out, b, all, &old_words, &new_words);
     wire_value(
         out,
         c,
         all,
-        level(tpu::interrupt_line(old)),
-        level(tpu::interrupt_line(s)),
+        level(deeds::interrupt_line(&old_words)),
+        level(deeds::interrupt_line(&new_words)),
         b'"',
     )
 }
@@ -49,8 +56,11 @@ fn pins(out: &mut [u8], at: usize, all: bool, old: u16, w: u16) -> usize
     next
 }
 
-fn positions(out: &mut [u8], at: usize, all: bool, old: State, s: State) -> usize
-    ensures { λ r. ⌜ Wrote (now (out .entry)) at (positionValues 16 all old s) r (now (out .exit)) ⌝ }
+// The words of both states are lent, here and below.
+fn positions(out: &mut [u8], at: usize, all: bool, old: &[u16], s: &[u16]) -> usize
+    requires { ⌜ (length (now old) ≡ stateWords) × (length (now s) ≡ stateWords) ⌝ }
+    ensures { λ r. ⌜ Wrote (now (out .entry)) at
+        (positionValues 16 all (stateIn (now (old .entry))) (stateIn (now (s .entry)))) r (now (out .exit)) ⌝ }
 {
     let mut next = at;
     for c in 0..16 {
@@ -114,11 +124,12 @@ fn level(on: bool) -> u32
 }
 
 // The position of a bound primary. No position is 65,536.
-fn position_of(s: State, c: u16) -> u32
-    ensures { λ r. ⌜ r ≡ positionOf s c ⌝ }
+fn position_of(s: &[u16], c: u16) -> u32
+    requires { ⌜ (length (now s) ≡ stateWords) × (c < 16) ⌝ }
+    ensures { λ r. ⌜ r ≡ positionOf (stateIn (now (s .entry))) c ⌝ }
 {
-    if !group::stepping(s, c) {
+    if !binding::stepping(s, c) {
         return 65536;
     }
-    parameters::word(s, c, 2) as u32
+    cells::word(s, c, 2) as u32
 }

@@ -3,29 +3,26 @@ use Prim.Native.Nat.{ℕ, zero, suc, _*_, _%_, _^_, _≤_, _<_}
 use native.Mathlib.Omega.{arith}
 use native.Mathlib.Nat.{mod-eq-of-lt, zero-div}
 use mathlib.Core.Bool.{Bool, true, false, _&&_}
-use mathlib.Core.List.{List}
 use mathlib.Core.Logic.{_≢_}
 use mathlib.Core.Path.{_≡_, refl, sym, ap, _∙_}
 use lib.Dec.{eqb}
-use lib.ListN.{getD}
-use borrow.Author.Tests.{eqb-true, eqb-false}
+use borrow.Author.Tests.{eqb-true, eqb-false, ne-eqb}
 use Rattle.words.specs.Choice.{pick}
 use Rattle.words.specs.Field.{field, withField, bitOf}
 use Rattle.words.proofs.ChoiceLaws.{not-both}
 use Rattle.words.proofs.FieldLaws.{field-lt}
 use Rattle.slots.specs.declared.Ready.{Ready}
 use Rattle.slots.specs.declared.Service.{Service}
+use Rattle.slots.specs.declared.Slots.{Slots}
 use Rattle.slots.specs.Slots.{readyIn, askedIn, chosen}
 use Rattle.slots.proofs.Within.{one-service}
 use Rattle.motor.specs.declared.Phase.{Phase}
-use Rattle.unit.specs.declared.Channel.{Channel}
 use Rattle.unit.specs.declared.State.{State}
-use Rattle.unit.specs.TheUnit.{idle, cprOf, reg, priority, request, channel}
+use Rattle.unit.specs.TheUnit.{cprOf, reg, priority}
 use Rattle.unit.specs.Pending.{isWanted, wanted, asksOf}
 use Rattle.unit.proofs.Access.{bit-same, bit-other}
 use Rattle.unit.proofs.Tests.{and-no}
-use Rattle.tick.specs.Parts.{requestIn}
-use Rattle.tick.specs.Ready.{priorityIn, noted, readyBelow}
+use Rattle.tick.specs.Ready.{pends, noted, asked, readyBelow}
 
 and-true : (b : Bool) → (b && true) ≡ b
 and-true true = refl
@@ -53,34 +50,35 @@ unfolding isWanted
 has-level zero r p e = absurd (not-both e refl)
 has-level (suc l) r p e = omega arith
 
-module _ (regs : List ℕ) (channels : List Channel) (level : ℕ) (least : 1 ≤ level) (most : level ≤ 3) where
-  abbrev wants : ℕ → Bool
-  wants n = isWanted (priorityIn regs n) (requestIn regs n) ((getD channels n idle) .phase)
+wanted-level : (s : State) (c : ℕ) → wanted s c ≡ true → 1 ≤ priority s c
+unfolding wanted
+wanted-level s c e = has-level _ _ _ e
 
-  abbrev asks : ℕ → Bool
-  asks n = eqb (priorityIn regs n) level && wants n
+priority-small : (s : State) (c : ℕ) → priority s c ≤ 3
+unfolding priority
+priority-small s c = omega (arith, field-lt 2 (reg s (cprOf c)) (2 * (c % 8)))
 
+module _ (s : State) (level : ℕ) (least : 1 ≤ level) (most : level ≤ 3) where
   abbrev word : ℕ → ℕ
-  word n = readyIn (readyBelow n regs channels) level
+  word n = readyIn (readyBelow n s) level
 
-  next : (n : ℕ) → n < 16 → word (suc n) ≡ pick (asks n) (withField 1 (word n) n 1) (word n)
-  unfolding readyBelow
-  next n h = by (wants n) refl
+  next : (n : ℕ) → n < 16 → word (suc n) ≡ pick (asksOf s level n) (withField 1 (word n) n 1) (word n)
+  unfolding readyBelow asked asksOf
+  next n h = by (wanted s n) refl
     where
       w : Ready
-      w = readyBelow n regs channels
+      w = readyBelow n s
 
-      by : (b : Bool) → wants n ≡ b
-          → readyIn (pick b (noted w n (priorityIn regs n)) w) level ≡ pick (eqb (priorityIn regs n) level && b) (withField 1 (word n) n 1) (word n)
+      by : (b : Bool) → wanted s n ≡ b
+          → readyIn (pick b (noted w n (priority s n)) w) level ≡ pick (eqb (priority s n) level && b) (withField 1 (word n) n 1) (word n)
       by true e =
           let small : n % 16 ≡ n = mod-eq-of-lt h in
-          let l : priorityIn regs n ≤ 3 = omega (arith, field-lt 2 (getD regs (cprOf n) 0) (2 * (n % 8))) in
-          rw (noted-in w n (priorityIn regs n) level (has-level _ _ _ e) l least most, and-true, small) refl
-      by false e = rw (and-no (eqb (priorityIn regs n) level) false refl) refl
+          rw (noted-in w n (priority s n) level (wanted-level s n e) (priority-small s n) least most, and-true, small) refl
+      by false e = rw (and-no (eqb (priority s n) level) false refl) refl
 
   -- no other bit changes
   same : (n c : ℕ) → n < 16 → c ≢ n → bitOf (word (suc n)) c ≡ bitOf (word n) c
-  same n c h d = rw (next n h) (by (asks n))
+  same n c h d = rw (next n h) (by (asksOf s level n))
     where
       by : (b : Bool) → bitOf (pick b (withField 1 (word n) n 1) (word n)) c ≡ bitOf (word n) c
       by true = bit-other (word n) 1 c n d
@@ -90,32 +88,50 @@ module _ (regs : List ℕ) (channels : List Channel) (level : ℕ) (least : 1 �
   unfolding readyBelow readyIn bitOf field
   fresh zero c h l =
       let none : bitOf 0 c ≡ false = rw (zero-div (2 ^ c)) in
-      of-three (λ k. bitOf (readyIn (readyBelow 0 regs channels) k) c ≡ false) none none none level least most
+      of-three (λ k. bitOf (readyIn (readyBelow 0 s) k) c ≡ false) none none none level least most
   fresh (suc n) c h l = same n c (omega arith) (λ e. omega (arith, e)) ∙ fresh n c (omega arith) (omega arith)
 
-  here : (n : ℕ) → n < 16 → bitOf (word (suc n)) n ≡ asks n
-  here n h = rw (next n h) (by (asks n))
+  here : (n : ℕ) → n < 16 → bitOf (word (suc n)) n ≡ asksOf s level n
+  here n h = rw (next n h) (by (asksOf s level n))
     where
       by : (b : Bool) → bitOf (pick b (withField 1 (word n) n 1) (word n)) n ≡ b
       by true = bit-same (word n) 1 n
       by false = fresh n n (omega arith) (omega arith)
 
-  below : (n c : ℕ) → n ≤ 16 → c < n → bitOf (word n) c ≡ asks c
+  below : (n c : ℕ) → n ≤ 16 → c < n → bitOf (word n) c ≡ asksOf s level c
   below zero c l h = absurd (omega arith)
   below (suc n) c l h = by (eqb c n) refl (below n c (omega arith))
     where
-      by : (b : Bool) → eqb c n ≡ b → (c < n → bitOf (word n) c ≡ asks c) → bitOf (word (suc n)) c ≡ asks c
+      by : (b : Bool) → eqb c n ≡ b → (c < n → bitOf (word n) c ≡ asksOf s level c) → bitOf (word (suc n)) c ≡ asksOf s level c
       by true e rest = rw (eqb-true c n e) (here n (omega arith))
       by false e rest =
           let d : c ≢ n = eqb-false c n e in
           same n c (omega arith) d ∙ rest (omega (arith, d))
 
-pub chosen-words : (s : State) → chosen (s .slots) (askedIn (readyBelow 16 (s .regs) (s .channels))) ≡ chosen (s .slots) (asksOf s)
-unfolding askedIn asksOf wanted priority request reg channel
+pub chosen-words : (s : State) → chosen (s .slots) (askedIn (readyBelow 16 s)) ≡ chosen (s .slots) (asksOf s)
+unfolding askedIn
 chosen-words s =
-    one-service .words (s .slots) (askedIn (readyBelow 16 (s .regs) (s .channels))) (asksOf s)
-    (λ level c l. below (s .regs) (s .channels) level (l .least) (l .most) 16 c (omega arith) (l .channel))
+    one-service .words (s .slots) (askedIn (readyBelow 16 s)) (asksOf s)
+    (λ level c l. below s level (l .least) (l .most) 16 c (omega arith) (l .channel))
 
-pub picked : (s : State) (v : Service) (w : Ready) → w ≡ readyBelow 16 (s .regs) (s .channels) → v ≡ chosen (s .slots) (askedIn w)
+pub picked : (s : State) (z : Slots) (v : Service) (w : Ready) → z ≡ s .slots → w ≡ readyBelow 16 s → v ≡ chosen z (askedIn w)
     → chosen (s .slots) (asksOf s) ≡ v
-picked s v w e f = sym (chosen-words s) ∙ ap (λ x. chosen (s .slots) (askedIn x)) (sym e) ∙ sym f
+picked s z v w d e f = sym (chosen-words s) ∙ ap (λ x. chosen (s .slots) (askedIn x)) (sym e) ∙ ap (λ x. chosen x (askedIn w)) (sym d) ∙ sym f
+
+-- ---- one channel: what is pending is asked before the priority
+
+pub not-pending : (s : State) (c : ℕ) (w : Ready) → pends s c ≡ false → w ≡ asked s c w
+unfolding asked wanted isWanted pends
+not-pending s c w e = rw e (by (eqb (priority s c) 0))
+  where
+    by : (b : Bool) → w ≡ pick (pick b false false) (noted w c (priority s c)) w
+    by true = refl
+    by false = refl
+
+pub disabled : (s : State) (c : ℕ) (w : Ready) → priority s c ≡ 0 → w ≡ asked s c w
+unfolding asked wanted isWanted
+disabled s c w e = rw e
+
+pub is-asked : (s : State) (c : ℕ) (w : Ready) → pends s c ≡ true → priority s c ≢ 0 → noted w c (priority s c) ≡ asked s c w
+unfolding asked wanted isWanted pends
+is-asked s c w e n = rw (e, ne-eqb (priority s c) 0 n)

@@ -1,19 +1,17 @@
 -- Which channels are ready, as three words: paper 02, #107.
-use Prim.Native.Nat.{ℕ, zero, suc, _*_, _%_}
-use mathlib.Core.List.{List}
-use lib.Dec.{eqb}
-use lib.ListN.{getD}
+use Prim.Native.Nat.{ℕ, zero, suc, _%_}
+use mathlib.Core.Bool.{Bool, true}
+use lib.Dec.{leb, eqb}
 use Rattle.words.specs.Choice.{pick}
-use Rattle.words.specs.Field.{field, withField}
+use Rattle.words.specs.Field.{withField}
 use Rattle.slots.specs.declared.Ready.{Ready}
-use Rattle.unit.specs.declared.Channel.{Channel}
-use Rattle.unit.specs.TheUnit.{idle, cprOf}
-use Rattle.unit.specs.Pending.{isWanted}
-use Rattle.tick.specs.Parts.{requestIn}
+use Rattle.unit.specs.declared.State.{State}
+use Rattle.unit.specs.TheUnit.{priority, request, channel}
+use Rattle.unit.specs.Pending.{isMatched, wanted}
 
--- the priority of channel c, by the registers
-abbrev pub priorityIn : List ℕ → ℕ → ℕ
-priorityIn regs c = field 2 (getD regs (cprOf c) 0) (2 * (c % 8))
+-- channel c has a request or a match to be served, whether it is enabled or not
+unfoldable pub pends : State → ℕ → Bool
+pends s c = pick (leb 2 (request s c)) true (isMatched ((channel s c) .phase))
 
 -- channel c is ready at this level
 unfoldable pub noted : Ready → ℕ → ℕ → Ready
@@ -22,9 +20,11 @@ noted w c level =
     (pick (eqb level 2) record { high = w .high; middle = withField 1 (w .middle) (c % 16) 1; low = w .low }
     record { high = w .high; middle = w .middle; low = withField 1 (w .low) (c % 16) 1 })
 
+-- noted if it is
+unfoldable pub asked : State → ℕ → Ready → Ready
+asked s c w = pick (wanted s c) (noted w c (priority s c)) w
+
 -- of the first n channels those that are
-unfoldable pub readyBelow : ℕ → List ℕ → List Channel → Ready
-readyBelow zero regs channels = record { high = 0; middle = 0; low = 0 }
-readyBelow (suc n) regs channels =
-    let w = readyBelow n regs channels in
-    pick (isWanted (priorityIn regs n) (requestIn regs n) ((getD channels n idle) .phase)) (noted w n (priorityIn regs n)) w
+unfoldable pub readyBelow : ℕ → State → Ready
+readyBelow zero s = record { high = 0; middle = 0; low = 0 }
+readyBelow (suc n) s = asked s n (readyBelow n s)

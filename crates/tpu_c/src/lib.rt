@@ -1,17 +1,14 @@
 // The calls of the timer unit for C. The caller lends the words that hold the state; answers are numbers.
 ghost use mathlib.Core.Path.{_≡_};
 ghost use Prim.Native.Nat.{_<_};
-ghost use mathlib.Core.Bool.{true};
-ghost use lib.ListN.{length};
 ghost use Rattle.words.specs.Field.{bitValue};
 ghost use Rattle.unit.specs.TheUnit.{resetState};
-ghost use Rattle.unit.specs.Calls.{isTaken};
 ghost use Rattle.unit.specs.Answers.{readingNumber, readingWord, answerNumber};
 ghost use Rattle.tpu.specs.Refusals.{Refusals};
 ghost use Rattle.pack.specs.Packing.{stateWords, packed, zeros, laid, unpacked};
-ghost use Rattle.tpu_c.specs.Numbers.{wordsAfter, resetAnswer, readAnswer, readWord, joined, writeAnswer, writeWords, writeState, advanceAnswer, advanceWords, advanceState, advancePins, lineAnswer};
+ghost use Rattle.tpu_c.specs.Numbers.{resetAnswer, readAnswer, readWord, joined, writeAnswer, writeWords, writeState, advanceAnswer, advanceWords, advanceState, advancePins, lineAnswer};
+use pack::layout;
 use unit::Answer;
-use unit::Answered;
 use unit::Reading;
 
 // The answer where the lent words are not as many as hold a state. No question of the gate has this number.
@@ -22,7 +19,7 @@ const WRONG_LENGTH: u16 = 100;
 pub extern "C" fn tpu_sm_state_words() -> u32
     ensures { λ r. ⌜ r ≡ stateWords ⌝ }
 {
-    pack::WORDS as u32
+    layout::WORDS as u32
 }
 
 // The words hold the state after reset, which is all zeros.
@@ -32,10 +29,10 @@ pub extern "C" fn tpu_sm_reset(state: &mut [u16]) -> u16
         × (now (state .exit) ≡ laid resetState (now (state .entry)))
         × (packed resetState ≡ zeros) ⌝ }
 {
-    if state.len() != pack::WORDS {
+    if state.len() != layout::WORDS {
         return WRONG_LENGTH;
     }
-    pack::pack(tpu::reset(), state);
+    ticks::fill(state, layout::WORDS, 0);
     0
 }
 
@@ -54,24 +51,17 @@ pub extern "C" fn tpu_sm_read(state: &[u16], address: u16) -> u32
     ensures { λ r. ⌜ (r ≡ joined (readAnswer (now (state .entry)) address) (readWord (now (state .entry)) address))
         × (readWord (now (state .entry)) address < 65536) ⌝ }
 {
-    if state.len() != pack::WORDS {
+    if state.len() != layout::WORDS {
         return WRONG_LENGTH as u32 * 65536;
     }
-    both_halves(tpu::read(pack::unpack(state), address))
+    both_halves(deeds::read(state, address))
 }
 
-// The state of a taken call goes to the lent words; a refused one leaves them, whatever they are.
-fn finish(r: Answered, state: &mut [u16]) -> u16
-    requires { ⌜ length (now state) ≡ 211 ⌝ }
-    ensures { λ n. ⌜ (n ≡ answerNumber (r .answer)) × (now (state .exit) ≡ wordsAfter r (now (state .entry)))
-        × (isTaken (r .answer) ≡ true → unpacked (packed (r .state)) ≡ r .state) ⌝ }
+fn number(a: Answer) -> u16
+    ensures { λ n. ⌜ n ≡ answerNumber a ⌝ }
 {
-    let answer = r.answer;
-    match answer {
-        Answer::Taken => {
-            pack::pack(r.state, state);
-            0
-        }
+    match a {
+        Answer::Taken => 0,
         Answer::Refused(n) => n as u16,
     }
 }
@@ -83,10 +73,10 @@ pub extern "C" fn tpu_sm_write(state: &mut [u16], address: u16, value: u16) -> u
         × (now (state .exit) ≡ writeWords (now (state .entry)) address value)
         × (unpacked (now (state .exit)) ≡ writeState (now (state .entry)) address value) ⌝ }
 {
-    if state.len() != pack::WORDS {
+    if state.len() != layout::WORDS {
         return WRONG_LENGTH;
     }
-    finish(tpu::write(pack::unpack(state), address, value), state)
+    number(deeds::write(state, address, value))
 }
 
 // n ticks, the pin word after each in the first n words of the list. Refused: neither list changes.
@@ -97,10 +87,10 @@ pub extern "C" fn tpu_sm_advance(state: &mut [u16], n: u32, pins: &mut [u16]) ->
         × (unpacked (now (state .exit)) ≡ advanceState (now (state .entry)) n (now (pins .entry)))
         × (now (pins .exit) ≡ advancePins (now (state .entry)) n (now (pins .entry))) ⌝ }
 {
-    if state.len() != pack::WORDS {
+    if state.len() != layout::WORDS {
         return WRONG_LENGTH;
     }
-    finish(tpu::advance(pack::unpack(state), n, pins), state)
+    number(ticks::advance(state, n, pins))
 }
 
 fn bit_number(on: bool) -> u16
@@ -114,10 +104,10 @@ fn bit_number(on: bool) -> u16
 pub extern "C" fn tpu_sm_interrupt_line(state: &[u16]) -> u16
     ensures { λ r. ⌜ r ≡ lineAnswer (now (state .entry)) ⌝ }
 {
-    if state.len() != pack::WORDS {
+    if state.len() != layout::WORDS {
         return WRONG_LENGTH;
     }
-    bit_number(tpu::interrupt_line(pack::unpack(state)))
+    bit_number(deeds::interrupt_line(state))
 }
 
 // About every answer: a refusal has the number of a question, so 0 means taken, and only the length gives 100.

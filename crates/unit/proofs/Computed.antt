@@ -1,6 +1,6 @@
 -- The short runs from reset, computed: `rows`.
 use mathlib.Core.Path.{refl}
-use Rattle.unit.specs.TheUnit.{withWords, withReg, withTimers, withPins, withChannel, each, all, any, cfsrOf, hsrrOf, cprOf, reg, function, request, withSlots, withRequest, priority, status, withStatus, withPin, channel, withInitialised, withSetUp, withLevel, withPhase, withBinding, withLate, kindIn, word, withWord, exists, channelControl, pinControl, position, target, modCount, nextRate, top, last, cntl0, cntl1, size, motorOf, stepping, reaches, isBound}
+use Rattle.unit.specs.TheUnit.{phaseFrom, flagsOf, standsFor, timeAfter, setAfter, latched, channelAt, withWords, withReg, withTimers, withPins, withChannel, each, all, any, cfsrOf, hsrrOf, cprOf, reg, function, request, withSlots, withRequest, priority, status, withStatus, withPin, channel, withInitialised, withSetUp, withLevel, withPhase, withBinding, withLate, kindIn, word, withWord, exists, channelControl, pinControl, position, target, modCount, nextRate, top, last, cntl0, cntl1, size, motorOf, stepping, reaches, isBound}
 use Rattle.unit.specs.Stepping.{pinOut, pinsOut, nextCount, turnedOnce, prepared, matchSet, stepped, outcome}
 use Rattle.unit.specs.OneTick.{matchOf, matched, initialise, stepRequest, requestServed, matchServed, served, slotServed, clocked, matches, serviceIn, tick, afterTicks}
 use Rattle.unit.specs.Gate.{place, isPlace, isWritten, inList, isFree, isStepper, isTimed, mayInitialise, otherwiseZero, spanGood, isReady, groupReady, showsPattern, patternGood, rampGood, quickGood, targetGood, advanceGood, requested, askInitialise, askStep, askChannel, andThen, askChannels, verdictOf, keepsOrFree, askRegister, askWord, askPlace, gate, requestedOne, stored, done}
@@ -19,7 +19,7 @@ use Rattle.unit.specs.Quiet.{untilDue, waits, quietAt, quietBelow}
 use Rattle.unit.specs.Rows.{readyBy, ready, goes, winds, shows, refuses, kinds, firstStep, waiting, pair, tells, Rows}
 
 pub rows : Rows
-unfolding withWords withReg withTimers withPins withChannel each all any cfsrOf hsrrOf cprOf reg function request withSlots withRequest priority status withStatus withPin channel withInitialised withSetUp withLevel withPhase withBinding withLate kindIn word withWord exists channelControl pinControl position target modCount nextRate top last cntl0 cntl1 size motorOf stepping reaches isBound pinOut pinsOut nextCount turnedOnce prepared matchSet stepped outcome matchOf matched initialise stepRequest requestServed matchServed served slotServed clocked matches serviceIn tick afterTicks place isPlace isWritten inList isFree isStepper isTimed mayInitialise otherwiseZero spanGood isReady groupReady showsPattern patternGood rampGood quickGood targetGood advanceGood requested askInitialise askStep askChannel andThen askChannels verdictOf keepsOrFree askRegister askWord askPlace gate requestedOne stored done answeredBy writeOf advanceOf after run ask since due later timeBy onward ticksACount ticksUntil sameTimer field withField bitOf rotatedRight rotatedLeft period ahead accelerates choice test turn onRequest onMatch beside bound goes winds kinds verdictNumber refuses shows readyBy ready pinWords firstStep isMatched isWanted wanted asksOf untilDue waits quietAt quietBelow ticked slotLevel begins found highest chosen slots.served waiting pair wordAt readOf readingNumber readingWord tells
+unfolding phaseFrom flagsOf standsFor timeAfter setAfter latched channelAt withWords withReg withTimers withPins withChannel each all any cfsrOf hsrrOf cprOf reg function request withSlots withRequest priority status withStatus withPin channel withInitialised withSetUp withLevel withPhase withBinding withLate kindIn word withWord exists channelControl pinControl position target modCount nextRate top last cntl0 cntl1 size motorOf stepping reaches isBound pinOut pinsOut nextCount turnedOnce prepared matchSet stepped outcome matchOf matched initialise stepRequest requestServed matchServed served slotServed clocked matches serviceIn tick afterTicks place isPlace isWritten inList isFree isStepper isTimed mayInitialise otherwiseZero spanGood isReady groupReady showsPattern patternGood rampGood quickGood targetGood advanceGood requested askInitialise askStep askChannel andThen askChannels verdictOf keepsOrFree askRegister askWord askPlace gate requestedOne stored done answeredBy writeOf advanceOf after run ask since due later timeBy onward ticksACount ticksUntil sameTimer field withField bitOf rotatedRight rotatedLeft period ahead accelerates choice test turn onRequest onMatch beside bound goes winds kinds verdictNumber refuses shows readyBy ready pinWords firstStep isMatched isWanted wanted asksOf untilDue waits quietAt quietBelow ticked slotLevel begins found highest chosen slots.served waiting pair wordAt readOf readingNumber readingWord tells
 rows =
     record {
       row-right = (refl, refl, refl, refl, refl, refl);

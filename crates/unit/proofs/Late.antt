@@ -6,8 +6,7 @@ use mathlib.Core.Bool.{Bool, true, false}
 use mathlib.Core.Path.{_≡_, refl, ap, subst, _∙_}
 use mathlib.Core.Logic.{_≢_, ⊎-elim}
 use lib.Dec.{eqb}
-use lib.ListN.{getD, length}
-use lib.Seq.{getD-set-same}
+use lib.ListN.{length}
 use borrow.Author.Tests.{eqb-true, eqb-false}
 use Rattle.words.specs.Choice.{pick}
 use Rattle.words.specs.Clock.{since, due, timeBy}
@@ -21,17 +20,12 @@ use Rattle.motor.specs.declared.Phase.the-variants.{Resting, Requested, Armed, 
 use Rattle.motor.specs.Group.{armed, happened}
 use Rattle.unit.specs.declared.Channel.{Channel}
 use Rattle.unit.specs.declared.State.{State}
-use Rattle.unit.specs.TheUnit.{idle, withPins, withChannel, withTimers, withSlots, each, withPin, channel, withPhase, withLate, timeFor, size}
+use Rattle.unit.specs.TheUnit.{channelAt, withPins, withTimers, withSlots, each, withPin, channel, withPhase, withLate, timeFor, size}
 use Rattle.unit.specs.Stepping.{pinOut, pinsOut}
 use Rattle.unit.specs.OneTick.{matchOf, matched, requestServed, matchServed, served, slotServed, clocked, matches, serviceIn, tick}
 use Rattle.unit.proofs.Reset.{Sized}
-use Rattle.unit.proofs.Access.{channel-other}
+use Rattle.unit.proofs.Access.{channel-set, channel-other}
 use Rattle.unit.proofs.Passing.{Left, left-each, left-matched, Spared, spared-outcome, spared-requestServed, timeNext}
-
--- what was set at c, if there are so many
-channel-set : (s : State) (c : ℕ) (x : Channel) → length (s .channels) ≡ 16 → c < 16 → channel (withChannel s c x) c ≡ x
-unfolding channel withChannel
-channel-set s c x z h = getD-set-same (s .channels) c x idle (omega (arith, z))
 
 -- ---- its phase after the matches
 
@@ -42,7 +36,7 @@ pins-channels (suc n) a s = pins-channels n a s
 
 out-channel : (s : State) (i c : ℕ) → channel (pinsOut s i) c ≡ channel s c
 unfolding pinsOut channel
-out-channel s i c = ap (λ l. getD l c idle) (pins-channels (size s i) i s)
+out-channel s i c = ap (λ l. channelAt l c) (pins-channels (size s i) i s)
 
 match-other : (c j : ℕ) → c ≢ j → (s : State) → (channel (matched j s) c) .phase ≡ (channel s c) .phase
 unfolding matched matchOf withPhase

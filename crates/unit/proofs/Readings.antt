@@ -20,7 +20,7 @@ use Rattle.unit.specs.declared.Place.{Place}
 use Rattle.unit.specs.declared.Place.the-variants.{AtRegister, AtWord, AtLate, Nowhere}
 use Rattle.unit.specs.declared.Verdict.{Verdict}
 use Rattle.unit.specs.declared.Verdict.the-variants.{Refused as Stops}
-use Rattle.unit.specs.TheUnit.{idle, withReg, withWords, withWord, withInitialised, withChannel, channel, cisr, reg, word, exists, interruptLine, any, all, stepping}
+use Rattle.unit.specs.TheUnit.{none, channelAt, standsFor, withReg, withWords, withWord, withInitialised, withChannel, channel, cisr, reg, word, exists, interruptLine, any, all, stepping}
 use Rattle.unit.specs.Gate.{place, isPlace, inList, isFree, keepsOrFree, targetGood, askRegister, askWord, askPlace, stored, done}
 use Rattle.unit.specs.Calls.{wordAt, readOf, answeredBy, writeOf, isTaken}
 use Rattle.unit.specs.Readings.{registerAddress, wordAddress, lateAddress, Listed, ReadOnly, Exists, BothBits, Readings}
@@ -95,8 +95,8 @@ reads-word : (s : State) (c i : ℕ) → c < 16 → i < 8 → Exists c i → rea
 unfolding isPlace wordAt word ask
 reads-word s c i h l e = read-at s (wordAddress c i) (AtWord c i) (word-place c i h l) ∙ ap (λ b. Word (pick b (getD (s .words) (8 * c + i) 0) 0)) (exists-yes c i e)
 
-reads-late : (s : State) (c : ℕ) → c < 16 → readOf s (lateAddress c) ≡ Word ((getD (s .channels) c idle) .late)
-unfolding isPlace wordAt channel ask
+reads-late : (s : State) (c : ℕ) → c < 16 → readOf s (lateAddress c) ≡ Word ((getD (s .channels) c none) .late)
+unfolding isPlace wordAt channel channelAt standsFor ask
 reads-late s c h = read-at s (lateAddress c) (AtLate c) (late-place c h)
 
 reads-outside : (s : State) (a : ℕ) → (Listed a → ⊥) → (ReadOnly a → ⊥) → readOf s a ≡ Refused 1

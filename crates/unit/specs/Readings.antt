@@ -7,7 +7,7 @@ use lib.ListN.{getD}
 use Rattle.words.specs.Field.{field}
 use Rattle.unit.specs.declared.State.{State}
 use Rattle.unit.specs.declared.Reading.the-variants.{Word, Refused}
-use Rattle.unit.specs.TheUnit.{idle, Whole, interruptLine}
+use Rattle.unit.specs.TheUnit.{none, Whole, interruptLine}
 use Rattle.unit.specs.Calls.{readOf, writeOf, isTaken}
 use Rattle.unit.specs.Answers.{readingWord}
 
@@ -51,7 +51,7 @@ pub record Readings : Type 0 where
   pub register : (s : State) (i : ℕ) → i < 12 → readOf s (registerAddress i) ≡ Word (getD (s .regs) i 0)
   pub word : (s : State) (c i : ℕ) → c < 16 → i < 8 → Exists c i → readOf s (wordAddress c i) ≡ Word (getD (s .words) (8 * c + i) 0)
   pub missing : (s : State) (c i : ℕ) → c < 14 → 6 ≤ i → i < 8 → readOf s (wordAddress c i) ≡ Word 0
-  pub late : (s : State) (c : ℕ) → c < 16 → readOf s (lateAddress c) ≡ Word ((getD (s .channels) c idle) .late)
+  pub late : (s : State) (c : ℕ) → c < 16 → readOf s (lateAddress c) ≡ Word ((getD (s .channels) c none) .late)
   pub outside : (s : State) (a : ℕ) → (Listed a → ⊥) → (ReadOnly a → ⊥) → readOf s a ≡ Refused 1
   -- what was written and taken is read back: a word, and a register but HSRR and CISR
   pub word-written : (s : State) (c i v : ℕ) → Whole s → c < 16 → i < 8 → Exists c i

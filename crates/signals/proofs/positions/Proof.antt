@@ -6,13 +6,14 @@ use lib.ListN.{length}
 use borrow.Author.Needs.{needs}
 use Rattle.text.specs.Placing.{Wrote}
 use Rattle.text.proofs.PlacingLaws.{also, nothing}
+use Rattle.pack.specs.Packing.{stateIn}
 use Rattle.signals.specs.Signals.{positionValues}
 use Rattle.signals.proofs.positions.Statement.{statement}
 use Rattle.signals.proofs.positions.Tie as tie
 
 abbrev Inv-loop : tie.InvT-loop
 Inv-loop out₀ at all old s next₀ c₀ out next c =
-    (c ≤ 16) × (length out ≡ length out₀) × Wrote out₀ at (positionValues c all old s) next out
+    (c ≤ 16) × (length out ≡ length out₀) × Wrote out₀ at (positionValues c all (stateIn old) (stateIn s)) next out
 
 abbrev μ-loop : tie.MeasureT-loop
 μ-loop out₀ at all old s next₀ c₀ out next c = 16 - c

@@ -1,10 +1,9 @@
-use mathlib.Core.Path.{refl, ap, _∙_}
+use mathlib.Core.Path.{refl}
 use native.Mathlib.Omega.{arith}
-use borrow.Author.Tests.{eq-eqb, ne-eqb}
-use Rattle.unit.specs.declared.State.{State}
-use Rattle.unit.specs.Calls.{readOf}
+use borrow.Author.Tests.{ne-eqb}
 use Rattle.pack.specs.Packing.{isWhole}
 use Rattle.tpu_c.specs.Numbers.{readAnswer, readWord, joined}
+use Rattle.tpu_c.proofs.Held.{whole, unpacked-whole}
 use borrow.Author.Needs.{needs}
 use Rattle.tpu_c.proofs.tpu_sm_read.Statement.{statement}
 use Rattle.tpu_c.proofs.tpu_sm_read.Tie as tie
@@ -21,9 +20,6 @@ returns c =
     let e = ne-eqb _ 211 (c .if1 .taken) in
     (rw (e) refl, rw (e) (omega arith))
 
-unpack-requires : tie.Need-unpack-requires
-unpack-requires c κs = search needs
-
 read-requires : tie.Need-read-requires
 read-requires c κs = search needs
 
@@ -31,21 +27,12 @@ both-halves-requires : tie.Need-both-halves-requires
 both-halves-requires c κs = search needs
 
 returns-2 : tie.Need-returns-2
-unfolding readAnswer readWord isWhole
+unfolding readAnswer readWord
 returns-2 c =
-    let u = c .before .before in
-    let e = eq-eqb _ 211 (u .before .if1 .left) in
-    let r = c .before .read .ensures .0 ∙ ap (λ (x : State). readOf x (u .before .before .before .args .address)) (u .unpack .ensures) in
-    (rw (e, ← r) (c .both-halves .ensures .0), rw (e, ← r) (c .both-halves .ensures .1))
+    let l = c .before .before .if1 .left in
+    rw (whole _ l, unpacked-whole _ l, ← c .before .read .ensures .0) (c .both-halves .ensures)
 
 pub tpu-sm-read-spec : {M : Type 1} → statement M
 tpu-sm-read-spec =
     tie.close
-    (tie.spec
-    cast-result
-    mul-result
-    returns
-    unpack-requires
-    read-requires
-    both-halves-requires
-    returns-2)
+    (tie.spec cast-result mul-result returns read-requires both-halves-requires returns-2)

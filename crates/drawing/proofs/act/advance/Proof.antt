@@ -34,8 +34,8 @@ loop-holds : tie.Need-loop-holds Inv-loop μ-loop
 unfolding afterTicks seenAt tickChanges
 loop-holds c = (omega arith, refl, refl, refl, nothing _ _)
 
-tick-requires : tie.Need-tick-requires Inv-loop μ-loop
-tick-requires c κs = search needs
+ticked-requires : tie.Need-ticked-requires Inv-loop μ-loop
+ticked-requires c κs = search needs
 
 cast-wrapping-add-u64 : tie.Need-cast-wrapping-add-u64 Inv-loop μ-loop
 cast-wrapping-add-u64 c = search needs
@@ -62,7 +62,7 @@ loop-again c =
     let ticked = added .before in
     let at = ticked .before .before in
     let l = at .loop in
-    let n = next-state (l .i) _ _ _ (l .inv .2) (ticked .tick .ensures) in (
+    let n = next-state (l .i) _ _ _ (l .inv .2) (ticked .ticked .ensures) in (
       omega arith,
       call .changes .kept .0 ∙ l .inv .1,
       n,
@@ -94,7 +94,7 @@ advance-spec =
     same-length
     returns
     loop-holds
-    tick-requires
+    ticked-requires
     cast-wrapping-add-u64
     add-wrapping-add-u64
     wrapping-add-u64-requires

@@ -1,5 +1,5 @@
 use borrow.Author.Needs.{needs}
-use mathlib.Core.Path.{_≡_, _∙_}
+use mathlib.Core.Path.{_≡_}
 use Prim.Native.Nat.{_-_, _≤_, _<_}
 use native.Mathlib.Omega.{arith}
 use lib.ListN.{length, take, length-set}
@@ -16,7 +16,7 @@ abbrev μ-loop : tie.MeasureT-loop
 μ-loop s₀ st i₀ s i = 211 - i
 
 loop-holds : tie.Need-loop-holds Inv-loop μ-loop
-loop-holds c = (omega arith, omega arith, c .before .pre .0, c .before .pre .1)
+loop-holds c = (omega arith, omega arith, c .pre .0, c .pre .1)
 
 sub-x : tie.Need-sub-x Inv-loop μ-loop
 sub-x c = omega arith
@@ -26,9 +26,6 @@ mul-x c = omega arith
 
 element-copy-out-x : tie.Need-element-copy-out-x Inv-loop μ-loop
 element-copy-out-x c = omega arith
-
-set-time-of-requires : tie.Need-set-time-of-requires Inv-loop μ-loop
-set-time-of-requires c κs = search needs
 
 mul-s : tie.Need-mul-s Inv-loop μ-loop
 mul-s c = omega arith
@@ -44,12 +41,12 @@ loop-less c = omega arith
 
 loop-again : tie.Need-loop-again Inv-loop μ-loop
 loop-again c =
-    let l = c .before .before .before .loop in
+    let l = c .before .before .loop in
     let h : l .i < length (l .s) = omega arith in (
       omega arith,
       omega arith,
       simp length-set (l .inv .2),
-      next _ (l .s) (l .i) _ h (l .inv .3) (c .set-time-of .ensures ∙ at-set-times _ _ (omega arith)),
+      next _ (l .s) (l .i) _ h (l .inv .3) (at-set-times _ _ (omega arith)),
     )
 
 same-length : tie.Need-same-length Inv-loop μ-loop
@@ -72,7 +69,6 @@ lay-set-times-spec =
     sub-x
     mul-x
     element-copy-out-x
-    set-time-of-requires
     mul-s
     slice-write-s
     add-i

@@ -3,13 +3,13 @@ use mathlib.Core.Path.{_≡_, refl}
 use Prim.Native.Nat.{_-_, _≤_, _<_}
 use native.Mathlib.Omega.{arith}
 use lib.ListN.{length, take, length-set}
-use Rattle.pack.specs.Packing.{tabulate, channelIn}
+use Rattle.pack.specs.Packing.{tabulate, latchesIn}
 use Rattle.pack.proofs.Tabled.{next, whole}
 use Rattle.pack.proofs.reading.channels_in.Statement.{statement}
 use Rattle.pack.proofs.reading.channels_in.Tie as tie
 
 abbrev Inv-loop : tie.InvT-loop
-Inv-loop s w₀ i₀ w i = (i ≤ 16) × (length s ≡ 211) × (length w ≡ 16) × (take i w ≡ tabulate i (channelIn s))
+Inv-loop s w₀ i₀ w i = (i ≤ 16) × (length s ≡ 211) × (length w ≡ 16) × (take i w ≡ tabulate i (latchesIn s))
 
 abbrev μ-loop : tie.MeasureT-loop
 μ-loop s w₀ i₀ w i = 16 - i
@@ -18,44 +18,8 @@ loop-holds : tie.Need-loop-holds Inv-loop μ-loop
 unfolding tabulate
 loop-holds c = (omega arith, search needs, refl, refl)
 
-add-channel-from : tie.Need-add-channel-from Inv-loop μ-loop
-add-channel-from c = omega arith
-
-mul-channel-from : tie.Need-mul-channel-from Inv-loop μ-loop
-mul-channel-from c = omega arith
-
-shared-slice-read-channel-from : tie.Need-shared-slice-read-channel-from Inv-loop μ-loop
-shared-slice-read-channel-from c = omega arith
-
-add-channel-from-2 : tie.Need-add-channel-from-2 Inv-loop μ-loop
-add-channel-from-2 c = omega arith
-
-mul-channel-from-2 : tie.Need-mul-channel-from-2 Inv-loop μ-loop
-mul-channel-from-2 c = omega arith
-
-shared-slice-read-channel-from-2 : tie.Need-shared-slice-read-channel-from-2 Inv-loop μ-loop
-shared-slice-read-channel-from-2 c = omega arith
-
-add-channel-from-3 : tie.Need-add-channel-from-3 Inv-loop μ-loop
-add-channel-from-3 c = omega arith
-
-mul-channel-from-3 : tie.Need-mul-channel-from-3 Inv-loop μ-loop
-mul-channel-from-3 c = omega arith
-
-shared-slice-read-channel-from-3 : tie.Need-shared-slice-read-channel-from-3 Inv-loop μ-loop
-shared-slice-read-channel-from-3 c = omega arith
-
-add-channel-from-4 : tie.Need-add-channel-from-4 Inv-loop μ-loop
-add-channel-from-4 c = omega arith
-
-mul-channel-from-4 : tie.Need-mul-channel-from-4 Inv-loop μ-loop
-mul-channel-from-4 c = omega arith
-
-shared-slice-read-channel-from-4 : tie.Need-shared-slice-read-channel-from-4 Inv-loop μ-loop
-shared-slice-read-channel-from-4 c = omega arith
-
-channel-from-requires : tie.Need-channel-from-requires Inv-loop μ-loop
-channel-from-requires c κs = search needs
+latches-in-requires : tie.Need-latches-in-requires Inv-loop μ-loop
+latches-in-requires c κs = search needs
 
 mul-w : tie.Need-mul-w Inv-loop μ-loop
 mul-w c = omega arith
@@ -71,9 +35,9 @@ loop-less c = omega arith
 
 loop-again : tie.Need-loop-again Inv-loop μ-loop
 loop-again c =
-    let l = c .before .before .before .before .before .before .loop in
+    let l = c .before .before .loop in
     let h : l .i < length (l .w) = omega arith in
-    (omega arith, l .inv .1, simp length-set (l .inv .2), next _ (l .w) (l .i) _ h (l .inv .3) (c .channel-from .ensures))
+    (omega arith, l .inv .1, simp length-set (l .inv .2), next _ (l .w) (l .i) _ h (l .inv .3) (c .latches-in .ensures))
 
 returns : tie.Need-returns Inv-loop μ-loop
 returns c =
@@ -88,19 +52,7 @@ channels-in-spec =
     Inv-loop
     μ-loop
     loop-holds
-    add-channel-from
-    mul-channel-from
-    shared-slice-read-channel-from
-    add-channel-from-2
-    mul-channel-from-2
-    shared-slice-read-channel-from-2
-    add-channel-from-3
-    mul-channel-from-3
-    shared-slice-read-channel-from-3
-    add-channel-from-4
-    mul-channel-from-4
-    shared-slice-read-channel-from-4
-    channel-from-requires
+    latches-in-requires
     mul-w
     array-set-from-w
     add-i
