@@ -16,15 +16,15 @@ use Rattle.motor.specs.Group.{bound}
 use Rattle.unit.specs.Answers.{readingNumber, readingWord, verdictNumber}
 use Rattle.unit.specs.Pending.{isMatched, isWanted, wanted, asksOf}
 use Rattle.unit.specs.Quiet.{untilDue, waits, quietAt, quietBelow}
-use Rattle.unit.specs.Rows.{readyBy, ready, goes, winds, shows, refuses, kinds, firstStep, waiting, pair, tells, Rows}
+use Rattle.unit.specs.Rows.{initialised, byTcr1, byTcr2, ready, atRest, goes, goesRight, winds, film, pictures, rightward, slowly, amongOthers, shows, refuses, kinds, firstStep, waiting, pair, tells, Rows}
 
 pub rows : Rows
-unfolding phaseFrom flagsOf standsFor timeAfter setAfter latched channelAt withWords withReg withTimers withPins withChannel each all any cfsrOf hsrrOf cprOf reg function request withSlots withRequest priority status withStatus withPin channel withInitialised withSetUp withLevel withPhase withBinding withLate kindIn word withWord exists channelControl pinControl position target modCount nextRate top last cntl0 cntl1 size motorOf stepping reaches isBound pinOut pinsOut nextCount turnedOnce prepared matchSet stepped outcome matchOf matched initialise stepRequest requestServed matchServed served slotServed clocked matches serviceIn tick afterTicks place isPlace isWritten inList isFree isStepper isTimed mayInitialise otherwiseZero spanGood isReady groupReady showsPattern patternGood rampGood quickGood targetGood advanceGood requested askInitialise askStep askChannel andThen askChannels verdictOf keepsOrFree askRegister askWord askPlace gate requestedOne stored done answeredBy writeOf advanceOf after run ask since due later timeBy onward ticksACount ticksUntil sameTimer field withField bitOf rotatedRight rotatedLeft period ahead accelerates choice test turn onRequest onMatch beside bound goes winds kinds verdictNumber refuses shows readyBy ready pinWords firstStep isMatched isWanted wanted asksOf untilDue waits quietAt quietBelow ticked slotLevel begins found highest chosen slots.served waiting pair wordAt readOf readingNumber readingWord tells
+unfolding phaseFrom flagsOf standsFor timeAfter setAfter latched channelAt withWords withReg withTimers withPins withChannel each all any cfsrOf hsrrOf cprOf reg function request withSlots withRequest priority status withStatus withPin channel withInitialised withSetUp withLevel withPhase withBinding withLate kindIn word withWord exists channelControl pinControl position target modCount nextRate top last cntl0 cntl1 size motorOf stepping reaches isBound pinOut pinsOut nextCount turnedOnce prepared matchSet stepped outcome matchOf matched initialise stepRequest requestServed matchServed served slotServed clocked matches serviceIn tick afterTicks place isPlace isWritten inList isFree isStepper isTimed mayInitialise otherwiseZero spanGood isReady groupReady showsPattern patternGood rampGood quickGood targetGood advanceGood requested askInitialise askStep askChannel andThen askChannels verdictOf keepsOrFree askRegister askWord askPlace gate requestedOne stored done answeredBy writeOf advanceOf after run ask since due later timeBy onward ticksACount ticksUntil sameTimer field withField bitOf rotatedRight rotatedLeft period ahead accelerates choice test turn onRequest onMatch beside bound initialised byTcr1 byTcr2 ready atRest goes goesRight winds film pictures rightward slowly amongOthers kinds verdictNumber refuses shows pinWords firstStep isMatched isWanted wanted asksOf untilDue waits quietAt quietBelow ticked slotLevel begins found highest chosen slots.served waiting pair wordAt readOf readingNumber readingWord tells
 rows =
     record {
-      row-right = (refl, refl, refl, refl, refl, refl);
-      row-left = (refl, refl, refl, refl, refl, refl);
-      row-slow = (refl, refl, refl, refl, refl);
+      row-right = refl;
+      row-left = refl;
+      row-slow = refl;
       row-quiet = (refl, refl);
       row-kinds = (refl, refl, refl, refl);
       row-pins = refl;
@@ -45,11 +45,10 @@ rows =
       row-question-10 = (refl, refl, refl, refl);
       row-functions = (refl, refl);
       row-priorities = (refl, refl, refl, refl);
-      row-one-a-tick = (refl, refl, refl, refl, refl);
-      row-pair = (refl, refl, refl, refl);
+      row-one-a-tick = (refl, refl);
+      row-pair = refl;
       row-late = (refl, refl, refl, refl, refl, refl);
-      row-late-pair = (refl, refl, refl);
-      row-late-move = (refl, refl, refl);
+      row-late-move = refl;
       row-late-slow = refl;
       row-late-read-only = (refl, refl, refl, refl, refl, refl, refl);
       row-word = (refl, refl, refl);
