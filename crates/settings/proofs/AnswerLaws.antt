@@ -1,24 +1,27 @@
--- One channel more is free; what a save and a load answer behind their tests.
+-- One channel more is free, one write of a load more; what a save and a load answer behind their tests.
 use Prim.Native.Nat.{ℕ, _+_, _≤_}
 use native.Mathlib.Omega.{arith}
 use native.Mathlib.Numerals.{add-one}
 use mathlib.Core.Bool.{Bool, true, false, _&&_}
-use mathlib.Core.List.{List}
+use mathlib.Core.List.{List, [], _∷_}
 use mathlib.Core.Logic.{_≢_}
 use mathlib.Core.Path.{_≡_, refl, _∙_}
 use borrow.Author.Tests.{lt-ltb}
 use Rattle.words.proofs.ChoiceLaws.{holds, fails, and-left, and-right, tests}
 use Rattle.unit.specs.declared.State.{State}
+use Rattle.unit.specs.declared.Answered.{Answered}
 use Rattle.unit.specs.TheUnit.{all}
 use Rattle.unit.specs.Gate.{isFree}
-use Rattle.blocks.specs.Blocks.{isStore, count, laid}
+use Rattle.unit.specs.Calls.{writeOf, after, run}
+use Rattle.blocks.specs.Blocks.{isStore, count, wordIn, laid}
 use Rattle.blocks.proofs.WordLaws.{count-store, no-store}
 use Rattle.keeping.specs.declared.Kept.{Kept}
 use Rattle.keeping.specs.declared.Kept.the-variants.{Taken, Refused}
 use Rattle.keeping.specs.declared.Which.{Which}
 use Rattle.keeping.specs.declared.Loaded.{Loaded}
-use Rattle.keeping.specs.Layout.{blockWord}
+use Rattle.keeping.specs.Layout.{settingAddress, blockWord, settingWrites}
 use Rattle.keeping.specs.Keeping.{numberOf, versionOf, greatest, placeOf, maySave, saveOf, saveNumber, saveVersion, storeAfter, chosen, loadOf, loadNumber, loadVersion}
+use Rattle.keeping.proofs.LayoutLaws.{run-append}
 use Rattle.keeping.proofs.KeepingLaws.{save-numbers, load-numbers}
 
 -- ---- question 2
@@ -67,6 +70,12 @@ saves-next s b t n g k e z f m l p q =
     saved s b (Taken (g + 1)) t (rw (may, f, add-one) refl) (rw (may, q, p, f, add-one) refl)
 
 -- ---- a load
+
+-- one setting more is written
+pub written-next : (start was : State) (r : Answered) (b : List ℕ) (k n a v : ℕ) → was ≡ run start (settingWrites b k n)
+    → r ≡ writeOf was a v → a ≡ settingAddress n → v ≡ wordIn b k (3 + n) → r .state ≡ run start (settingWrites b k (n + 1))
+unfolding settingWrites after run
+written-next start was r b k n a v e f g h = rw (add-one, run-append start (settingWrites b k n) (_ ∷ []), f, g, h, e)
 
 -- what its contract says of its answer r
 abbrev pub LoadedBy : State → Which → List ℕ → Loaded → Type 0

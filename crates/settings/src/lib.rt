@@ -1,7 +1,5 @@
 // A board's settings, kept by version in a store that the caller lends. Paper 02, #102.
-mod layout;
 mod loading;
-mod saving;
 
 ghost use mathlib.Core.Path.{_≡_};
 ghost use Rattle.keeping.specs.Keeping.{numberOf, versionOf, saveOf, saveNumber, saveVersion, storeAfter};
@@ -10,6 +8,7 @@ use keeping::Chosen;
 use keeping::Kept;
 use keeping::Loaded;
 use keeping::Which;
+use saving::layout;
 use unit::State;
 
 // Keeps the settings of s as the next version. Refused, it leaves the store as it was.

@@ -4,7 +4,6 @@ ghost use Rattle.unit.specs.Calls.{run};
 ghost use Rattle.keeping.specs.Layout.{loadCalls};
 ghost use Rattle.keeping.specs.Keeping.{sought, chosen, allFree, loadFrom};
 ghost use Rattle.keeping.specs.declared.Chosen.the-variants.{Block};
-use crate::layout;
 use blocks::Found;
 use blocks::Search;
 use keeping::Chosen;
@@ -14,6 +13,7 @@ use keeping::LAYOUT;
 use keeping::Loaded;
 use keeping::SETTINGS;
 use keeping::Which;
+use saving::layout;
 use unit::State;
 
 fn sought(which: Which) -> Search

@@ -6,7 +6,7 @@ use mathlib.Core.Path.{_≡_, refl}
 use borrow.Author.Needs.{needs}
 use Rattle.unit.specs.Calls.{run}
 use Rattle.keeping.specs.Layout.{settingWrites, loadCalls}
-use Rattle.settings.proofs.CallLaws.{written-next}
+use Rattle.settings.proofs.AnswerLaws.{written-next}
 
 abbrev Inv-loop : tie.InvT-loop
 Inv-loop s₀ store k n₀ s n = (n ≤ 106) × (s ≡ run s₀ (settingWrites store k n))

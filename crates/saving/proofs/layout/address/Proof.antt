@@ -1,6 +1,6 @@
 use borrow.Author.Needs.{needs}
-use Rattle.settings.proofs.layout.address.Statement.{statement}
-use Rattle.settings.proofs.layout.address.Tie as tie
+use Rattle.saving.proofs.layout.address.Statement.{statement}
+use Rattle.saving.proofs.layout.address.Tie as tie
 use Rattle.keeping.specs.Layout.{settingAddress}
 use Rattle.words.proofs.ChoiceLaws.{cases}
 

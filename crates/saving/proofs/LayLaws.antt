@@ -1,7 +1,7 @@
--- One setting read, one word of a block more, one write of a load more.
+-- One setting read, one word of a block more.
 use Prim.Native.Nat.{ℕ, _+_, _-_, _%_}
 use native.Mathlib.Numerals.{add-one}
-use mathlib.Core.List.{List, [], _∷_}
+use mathlib.Core.List.{List}
 use mathlib.Core.Path.{_≡_, refl, sym, _∙_}
 use Rattle.words.specs.Choice.{ask}
 use Rattle.unit.specs.declared.State.{State}
@@ -10,11 +10,9 @@ use Rattle.unit.specs.declared.Reading.the-variants.{Word, Refused}
 use Rattle.unit.specs.declared.Place.{Place}
 use Rattle.unit.specs.declared.Place.the-variants.{AtRegister, AtWord, AtLate, Nowhere}
 use Rattle.unit.specs.Gate.{place, isPlace, inList}
-use Rattle.unit.specs.declared.Answered.{Answered}
-use Rattle.unit.specs.Calls.{wordAt, readOf, writeOf, after, run}
-use Rattle.blocks.specs.Blocks.{wordIn, withWord, laid, sum, checkWord}
-use Rattle.keeping.specs.Layout.{settingAddress, setting, heldWord, blockWord, settingWrites}
-use Rattle.keeping.proofs.LayoutLaws.{run-append}
+use Rattle.unit.specs.Calls.{wordAt, readOf}
+use Rattle.blocks.specs.Blocks.{withWord, laid, sum, checkWord}
+use Rattle.keeping.specs.Layout.{settingAddress, setting, heldWord, blockWord}
 
 -- the word of a reading, 0 where it is refused
 abbrev pub shown : Reading → ℕ
@@ -42,11 +40,3 @@ laid-next f b was is k i w e g h = rw (add-one, g, e, h)
 pub check-block : (s : State) (v total : ℕ) → total ≡ sum (heldWord s v) 255 % 65536 → 0xffff - total ≡ blockWord s v 255
 unfolding blockWord checkWord
 check-block s v total e = rw e
-
--- ---- a load
-
--- one setting more is written
-pub written-next : (start was : State) (r : Answered) (b : List ℕ) (k n a v : ℕ) → was ≡ run start (settingWrites b k n)
-    → r ≡ writeOf was a v → a ≡ settingAddress n → v ≡ wordIn b k (3 + n) → r .state ≡ run start (settingWrites b k (n + 1))
-unfolding settingWrites after run
-written-next start was r b k n a v e f g h = rw (add-one, run-append start (settingWrites b k n) (_ ∷ []), f, g, h, e)

@@ -1,5 +1,5 @@
-use Rattle.settings.proofs.layout.lay.Statement.{statement}
-use Rattle.settings.proofs.layout.lay.Tie as tie
+use Rattle.saving.proofs.layout.lay.Statement.{statement}
+use Rattle.saving.proofs.layout.lay.Tie as tie
 use Prim.Native.Nat.{_-_, _%_, _≤_}
 use native.Mathlib.Omega.{arith}
 use native.Mathlib.Numerals.{add-one}
@@ -10,7 +10,7 @@ use Rattle.blocks.specs.Blocks.{laid, sum}
 use Rattle.blocks.proofs.WordLaws.{laid-length}
 use Rattle.keeping.specs.Layout.{heldWord, blockWord}
 use Rattle.keeping.proofs.LayoutLaws.{block-word}
-use Rattle.settings.proofs.CallLaws.{laid-next, check-block}
+use Rattle.saving.proofs.LayLaws.{laid-next, check-block}
 
 abbrev Inv-loop : tie.InvT-loop
 Inv-loop store₀ k s version total₀ i₀ store total i =

@@ -1,6 +1,6 @@
 use borrow.Author.Needs.{needs}
-use Rattle.settings.proofs.saving.place.Statement.{statement}
-use Rattle.settings.proofs.saving.place.Tie as tie
+use Rattle.saving.proofs.place.Statement.{statement}
+use Rattle.saving.proofs.place.Tie as tie
 use Rattle.keeping.specs.Keeping.{orOldest, blockAt, placeOf}
 
 find-requires : tie.Need-find-requires

@@ -1,6 +1,6 @@
 use borrow.Author.Needs.{needs}
-use Rattle.settings.proofs.layout.held.Statement.{statement}
-use Rattle.settings.proofs.layout.held.Tie as tie
+use Rattle.saving.proofs.layout.held.Statement.{statement}
+use Rattle.saving.proofs.layout.held.Tie as tie
 use Rattle.keeping.specs.Layout.{heldWord}
 use Rattle.words.proofs.ChoiceLaws.{cases}
 

@@ -1,6 +1,6 @@
 use borrow.Author.Needs.{needs}
-use Rattle.settings.proofs.saving.greatest.Statement.{statement}
-use Rattle.settings.proofs.saving.greatest.Tie as tie
+use Rattle.saving.proofs.greatest.Statement.{statement}
+use Rattle.saving.proofs.greatest.Tie as tie
 use Rattle.keeping.specs.Keeping.{versionAt, greatest}
 
 find-requires : tie.Need-find-requires

@@ -1,7 +1,7 @@
 use borrow.Author.Needs.{needs}
-use Rattle.settings.proofs.layout.setting.Statement.{statement}
-use Rattle.settings.proofs.layout.setting.Tie as tie
-use Rattle.settings.proofs.CallLaws.{reads-setting}
+use Rattle.saving.proofs.layout.setting.Statement.{statement}
+use Rattle.saving.proofs.layout.setting.Tie as tie
+use Rattle.saving.proofs.LayLaws.{reads-setting}
 
 address-requires : tie.Need-address-requires
 address-requires c κs = search needs

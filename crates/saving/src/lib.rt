@@ -1,4 +1,6 @@
-// Under which version a save goes, and where to.
+// What a save writes: under which version, where to, and the block. Paper 02, #102.
+pub mod layout;
+
 ghost use mathlib.Core.Path.{_≡_};
 ghost use Rattle.keeping.specs.Keeping.{greatest, placeOf};
 use blocks::Found;
