@@ -1,14 +1,18 @@
 // Which channels are bound, of the state that lent words hold, and the requests that bind them.
 ghost use mathlib.Core.Path.{_≡_};
-ghost use Prim.Native.Nat.{_<_};
+ghost use Prim.Native.Nat.{ℕ, _*_, _<_};
 ghost use mathlib.Core.Bool.{_&&_};
+ghost use mathlib.Core.Logic.{_≢_};
 ghost use lib.Dec.{leb};
 ghost use lib.ListN.{length};
+ghost use Rattle.words.specs.Choice.{pick};
+ghost use Rattle.words.specs.Field.{field};
 ghost use Rattle.motor.specs.Group.{bound};
-ghost use Rattle.unit.specs.TheUnit.{last, stepping, isBound};
+ghost use Rattle.unit.specs.TheUnit.{last, withBinding, stepping, isBound};
 ghost use Rattle.unit.specs.Gate.{isFree, requested};
 ghost use Rattle.pack.specs.Packing.{stateWords, stateIn, Holds};
 use motor::Phase;
+use words::field;
 
 // A phase in which the group is bound.
 fn bound(p: Phase) -> bool
@@ -68,6 +72,17 @@ pub fn is_free(s: &[u16], c: u16) -> bool
     registers::request(s, c) == 0
 }
 
+// A step request binds the group of c unless it is under way.
+fn bind_at_rest(s: &mut [u16], c: u16)
+    requires { ⌜ (length (now s) ≡ stateWords) × (c < 16) ⌝ }
+    ensures { λ _. ⌜ Holds (now (s .exit)) (pick (stepping (stateIn (now (s .entry))) c) (stateIn (now (s .entry))) (withBinding (stateIn (now (s .entry))) c)) ⌝ }
+{
+    if stepping(s, c) {
+        return;
+    }
+    stores::bind(s, c);
+}
+
 // What a taken request of channel c does: 2 initialise, 3 step, which binds a group at rest.
 pub fn requested(s: &mut [u16], c: u16, r: u16)
     requires { ⌜ (length (now s) ≡ stateWords) × (c < 16) ⌝ }
@@ -80,10 +95,18 @@ pub fn requested(s: &mut [u16], c: u16, r: u16)
     if r != 3 {
         return;
     }
-    if stepping(s, c) {
-        registers::put_request(s, c, 3);
-        return;
-    }
-    stores::bind(s, c);
+    bind_at_rest(s, c);
     registers::put_request(s, c, 3);
+}
+
+// The one channel that a word of requests asks, by its pair from the low end, or 8: most words ask one alone, and nothing needs to be tried
+// out before it.
+pub fn lone(v: u16) -> u16
+    ensures { λ r. ⌜ (r < 8 → (k : ℕ) → k < 8 → k ≢ r → field 2 v (2 * k) ≡ 0) ⌝ }
+{
+    let k = u16::trailing_zeros(v) as u16 / 2;
+    if field::with_pair(v, k, 0) != 0 {
+        return 8;
+    }
+    k
 }

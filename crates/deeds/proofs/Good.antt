@@ -1,6 +1,7 @@
 -- Every deed that the gate makes is good: what it changes is there.
-use Prim.Native.Nat.{ℕ, _-_, _*_, _≤_}
+use Prim.Native.Nat.{ℕ, _-_, _*_, _≤_, _%_}
 use mathlib.Core.Bool.{_&&_}
+use mathlib.Core.Path.{_≡_}
 use native.Mathlib.Omega.{arith}
 use lib.Dec.{eqb, leb}
 use borrow.Author.Tests.{leb-true}
@@ -20,7 +21,7 @@ unfoldable pub VerdictGood : Verdict → Type 0
 VerdictGood (Taken d) = DeedGood d
 VerdictGood (Refused n) = Unit {0}
 
-requests-good : (x : Asked) (a v : ℕ) → a ≤ 8 → VerdictGood (verdictOf x (Request a v))
+requests-good : (x : Asked) (a v : ℕ) → (a ≤ 8) × (a % 8 ≡ 0) → VerdictGood (verdictOf x (Request a v))
 unfolding VerdictGood DeedGood verdictOf
 requests-good (Yes s) a v h = h
 requests-good (No n) a v h = tt
@@ -31,7 +32,7 @@ place-asked s (AtRegister i) v h =
     pick-cases VerdictGood (eqb i cisr) (λ t. tt)
     (λ t. pick-cases VerdictGood (leb 1 i && leb i 4) (λ u. ask-cases VerdictGood (all 4 (4 * (4 - i)) (keepsOrFree s v)) _ _ tt (λ w. omega arith))
     (λ u. pick-cases VerdictGood (leb 7 i && leb i 8)
-    (λ w. let l : 7 ≤ i = leb-true 7 i (and-left (leb 7 i) (leb i 8) w) in requests-good (askChannels 8 (8 * (8 - i)) v s) (8 * (8 - i)) v (omega arith))
+    (λ w. let l : 7 ≤ i = leb-true 7 i (and-left (leb 7 i) (leb i 8) w) in requests-good (askChannels 8 (8 * (8 - i)) v s) (8 * (8 - i)) v (omega arith, omega arith))
     (λ w. omega arith)))
 place-asked s (AtWord c i) v h =
     pick-cases VerdictGood (exists c i)

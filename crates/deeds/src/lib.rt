@@ -1,6 +1,6 @@
 // A read, a write and the interrupt line on the words that a caller lends, made where the words stand.
 ghost use mathlib.Core.Path.{_≡_};
-ghost use Prim.Native.Nat.{_<_, _≤_};
+ghost use Prim.Native.Nat.{_%_, _<_, _≤_};
 ghost use lib.ListN.{length};
 ghost use Rattle.words.specs.Choice.{pick};
 ghost use Rattle.unit.specs.TheUnit.{each, interruptLine};
@@ -41,6 +41,19 @@ fn requested_all(s: &mut [u16], a: u16, v: u16)
     }
 }
 
+// The same, at once where one channel alone is asked.
+fn requested_word(s: &mut [u16], a: u16, v: u16)
+    requires { ⌜ (length (now s) ≡ stateWords) × (a ≤ 8) × (a % 8 ≡ 0) ⌝ }
+    ensures { λ _. ⌜ Holds (now (s .exit)) (each 8 a (requestedOne v) (stateIn (now (s .entry)))) ⌝ }
+{
+    let k = binding::lone(v);
+    if k < 8 {
+        binding::requested(s, a + k, field::pair(v, k));
+        return;
+    }
+    requested_all(s, a, v);
+}
+
 // Carries out a deed of the gate.
 fn done(s: &mut [u16], d: Deed)
     requires { ⌜ (length (now s) ≡ stateWords) × DeedGood d ⌝ }
@@ -54,7 +67,7 @@ fn done(s: &mut [u16], d: Deed)
             let kept = cells::reg(s, State::CISR) & v;
             stores::put_reg(s, State::CISR, kept);
         }
-        Deed::Request(a, v) => requested_all(s, a as u16, v),
+        Deed::Request(a, v) => requested_word(s, a as u16, v),
     }
 }
 

@@ -98,7 +98,7 @@ fn ask_step(s: &[u16], c: u16) -> Answer
 }
 
 // Channel c with its two bits r of the word.
-fn ask_channel(s: &[u16], c: u16, r: u16) -> Answer
+pub fn ask_channel(s: &[u16], c: u16, r: u16) -> Answer
     requires { ⌜ (length (now s) ≡ stateWords) × (c < 16) ⌝ }
     ensures { λ out. ⌜ told out (requested (stateIn (now (s .entry))) c r) ≡ askChannel r c (stateIn (now (s .entry))) ⌝ }
 {

@@ -13,6 +13,11 @@ use Rattle.unit.specs.Pending.{isMatched, wanted}
 unfoldable pub pends : State → ℕ → Bool
 pends s c = pick (leb 2 (request s c)) true (isMatched ((channel s c) .phase))
 
+-- a word with a bit for each of the first n channels that has
+unfoldable pub pendingBelow : ℕ → State → ℕ
+pendingBelow zero s = 0
+pendingBelow (suc n) s = pick (pends s n) (withField 1 (pendingBelow n s) (n % 16) 1) (pendingBelow n s)
+
 -- channel c is ready at this level
 unfoldable pub noted : Ready → ℕ → ℕ → Ready
 noted w c level =

@@ -7,18 +7,30 @@ ghost use Rattle.words.specs.Choice.{pick};
 ghost use Rattle.unit.specs.Gate.{advanceGood};
 ghost use Rattle.unit.specs.OneTick.{afterTicks};
 ghost use Rattle.unit.specs.Calls.{pinWords, advanceOf, lentAfter};
+ghost use Rattle.unit.specs.Quiet.{quietBelow};
 ghost use Rattle.unit.specs.Answers.{answerNumber};
 ghost use Rattle.pack.specs.Packing.{stateWords, stateIn, Holds};
 use unit::Answer;
 use unit::State;
 
-// The quiet ticks, or one tick in which something happens; at most as many as there is room for. All end with the same pin word.
+// How many quiet ticks to make at once. One tick alone is made as any other: to look ahead of it would cost more than it saves.
+fn leap(s: &[u16], room: u16) -> u16
+    requires { ⌜ length (now s) ≡ stateWords ⌝ }
+    ensures { λ r. ⌜ (r ≤ quietBelow 16 (stateIn (now (s .entry)))) × (r ≤ room) ⌝ }
+{
+    if room < 2 {
+        return 0;
+    }
+    quiet::quiet_ticks(s, room)
+}
+
+// The quiet ticks, or one tick in which something may happen; at most as many as there is room for. All end with the same pin word.
 fn onward(s: &mut [u16], room: u16) -> u16
     requires { ⌜ (length (now s) ≡ stateWords) × (0 < room) ⌝ }
     ensures { λ r. ⌜ (0 < r) × (r ≤ room) × Holds (now (s .exit)) (afterTicks r (stateIn (now (s .entry))))
         × (pinWords r (stateIn (now (s .entry))) ≡ replicate r ((afterTicks r (stateIn (now (s .entry)))) .pins)) ⌝ }
 {
-    let q = quiet::quiet_ticks(s, room);
+    let q = leap(s, room);
     if q == 0 {
         tick::tick(s);
         return 1;

@@ -29,8 +29,18 @@ struct Case {
     what: &'static str,
     /// None at rest.
     motors: Option<Motors>,
-    /// Targets and a request in every tick.
-    busy: bool,
+    pace: Pace,
+}
+
+/// How the ticks come.
+#[derive(PartialEq)]
+enum Pace {
+    /// In advances of 4,096.
+    Chunks,
+    /// One by one.
+    Ticks,
+    /// One by one, with targets and a request in every tick.
+    Busy,
 }
 
 const FOUR: Motors = Motors {
@@ -41,12 +51,12 @@ const FOUR: Motors = Motors {
 };
 const EIGHT: Motors = Motors { size: 2, ..FOUR };
 
-const CASES: [Case; 8] = [
+const CASES: [Case; 9] = [
     Case {
         name: "rest",
         what: "all at rest",
         motors: None,
-        busy: false,
+        pace: Pace::Chunks,
     },
     Case {
         name: "four-400",
@@ -55,13 +65,13 @@ const CASES: [Case; 8] = [
             period: 400,
             ..FOUR
         }),
-        busy: false,
+        pace: Pace::Chunks,
     },
     Case {
         name: "four-128",
         what: "4 motors of 4 channels, period 128",
         motors: Some(FOUR),
-        busy: false,
+        pace: Pace::Chunks,
     },
     Case {
         name: "four-mixed",
@@ -70,19 +80,19 @@ const CASES: [Case; 8] = [
             mixed: true,
             ..FOUR
         }),
-        busy: false,
+        pace: Pace::Chunks,
     },
     Case {
         name: "slow-128",
         what: "4 motors of 4 channels by TCR2, period 128",
         motors: Some(Motors { slow: true, ..FOUR }),
-        busy: false,
+        pace: Pace::Chunks,
     },
     Case {
         name: "eight-128",
         what: "8 motors of 2 channels, period 128",
         motors: Some(EIGHT),
-        busy: false,
+        pace: Pace::Chunks,
     },
     Case {
         name: "eight-mixed",
@@ -91,13 +101,19 @@ const CASES: [Case; 8] = [
             mixed: true,
             ..EIGHT
         }),
-        busy: false,
+        pace: Pace::Chunks,
+    },
+    Case {
+        name: "eight-ticks",
+        what: "8 motors of 2 channels, period 128, tick by tick",
+        motors: Some(EIGHT),
+        pace: Pace::Ticks,
     },
     Case {
         name: "busy",
         what: "4 motors, a request and targets in every tick",
         motors: Some(FOUR),
-        busy: true,
+        pace: Pace::Busy,
     },
 ];
 
@@ -185,7 +201,7 @@ impl Case {
     /// Four chunks, or as many ticks one by one; the calls that it took.
     fn go(&self, unit: &mut dyn Unit, i: u32, list: &mut [u16]) -> u64 {
         let mut calls = 0;
-        if let (true, Some(motors)) = (self.busy, self.motors) {
+        if let (Pace::Busy, Some(motors)) = (&self.pace, self.motors) {
             for tick in 0..CHUNK {
                 calls += motors.send(unit, there_and_back(tick));
                 unit.advance(1, list).expect("a tick");
@@ -198,14 +214,22 @@ impl Case {
         if let Some(motors) = self.motors {
             calls += motors.send(unit, there_and_back(i));
         }
-        for _ in 0..4 {
-            unit.advance(CHUNK, list).expect("a chunk");
+        let (times, chunk) = match self.pace {
+            Pace::Chunks => (4, CHUNK),
+            _ => (CHUNK, 1),
+        };
+        for _ in 0..times {
+            unit.advance(chunk, list).expect("ticks");
         }
-        calls + 4
+        calls + u64::from(times)
     }
 
     fn ticks(&self) -> u64 {
-        u64::from(if self.busy { CHUNK } else { 4 * CHUNK })
+        u64::from(if self.pace == Pace::Chunks {
+            4 * CHUNK
+        } else {
+            CHUNK
+        })
     }
 }
 

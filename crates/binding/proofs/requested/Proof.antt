@@ -21,8 +21,8 @@ returns-2 : tie.Need-returns-2
 unfolding requested
 returns-2 c = (search needs, rw (ne-eqb _ 2 (c .before .if1 .left), ne-eqb _ 3 (c .if2 .taken)) refl)
 
-stepping-requires : tie.Need-stepping-requires
-stepping-requires c κs = search needs
+bind-at-rest-requires : tie.Need-bind-at-rest-requires
+bind-at-rest-requires c κs = search needs
 
 put-request-requires-2 : tie.Need-put-request-requires-2
 put-request-requires-2 c κs = search needs
@@ -34,23 +34,8 @@ returns-3 : tie.Need-returns-3
 unfolding requested
 returns-3 c =
     let p = c .before .before .put-request2 .ensures in
-    (p .0, rw (ne-eqb _ 2 (c .before .before .before .before .before .before .before .before .if1 .left), eq-eqb _ 3 (c .before .before .before .before .before .before .before .if2 .left), ← c .before .before .before .before .before .stepping .ensures, c .before .before .before .before .if3 .taken) (p .1))
-
-bind-requires : tie.Need-bind-requires
-bind-requires c κs = search needs
-
-put-request-requires-3 : tie.Need-put-request-requires-3
-put-request-requires-3 c κs = search needs
-
-same-length-3 : tie.Need-same-length-3
-same-length-3 c = search needs
-
-returns-4 : tie.Need-returns-4
-unfolding requested
-returns-4 c =
-    let p = c .before .before .put-request3 .ensures in
-    let b = c .before .before .before .before .before .before .bind .ensures in
-    (p .0, rw (ne-eqb _ 2 (c .before .before .before .before .before .before .before .before .before .before .before .before .if1 .left), eq-eqb _ 3 (c .before .before .before .before .before .before .before .before .before .before .before .if2 .left), ← c .before .before .before .before .before .before .before .before .before .stepping .ensures, c .before .before .before .before .before .before .before .before .if3 .left, ← b .1) (p .1))
+    let b = c .before .before .before .before .before .before .bind-at-rest .ensures in
+    (p .0, rw (ne-eqb _ 2 (c .before .before .before .before .before .before .before .before .before .if1 .left), eq-eqb _ 3 (c .before .before .before .before .before .before .before .before .if2 .left), ← b .1) (p .1))
 
 pub requested-spec : {M : Type 1} → statement M
 requested-spec =
@@ -60,11 +45,7 @@ requested-spec =
     same-length
     returns
     returns-2
-    stepping-requires
+    bind-at-rest-requires
     put-request-requires-2
     same-length-2
-    returns-3
-    bind-requires
-    put-request-requires-3
-    same-length-3
-    returns-4)
+    returns-3)

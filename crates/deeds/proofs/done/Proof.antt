@@ -38,14 +38,14 @@ put-reg-requires-2 c κs = search needs
 enum-known-d-4 : tie.Need-enum-known-d-4
 enum-known-d-4 c = search needs
 
-cast-requested-all : tie.Need-cast-requested-all
-cast-requested-all c = search needs
+cast-requested-word : tie.Need-cast-requested-word
+cast-requested-word c = search needs
 
-requested-all-requires : tie.Need-requested-all-requires
+requested-word-requires : tie.Need-requested-word-requires
 unfolding DeedGood
-requested-all-requires c κs =
+requested-word-requires c κs =
     let h = subst DeedGood (c .before .before .d4 .given .1) (c .before .before .before .before .before .pre .1) in
-    (search needs, h)
+    (search needs, h .0, h .1)
 
 returns : tie.Need-returns
 unfolding done
@@ -84,7 +84,7 @@ same-length-4 c = search needs
 returns-5 : tie.Need-returns-5
 unfolding done
 returns-5 c =
-    let x = c .before .before .requested-all .ensures in
+    let x = c .before .before .requested-word .ensures in
     (x .0, rw (c .before .before .before .before .before .d4 .given .1) (x .1))
 
 pub done-spec : {M : Type 1} → statement M
@@ -100,8 +100,8 @@ done-spec =
     reg-requires
     put-reg-requires-2
     enum-known-d-4
-    cast-requested-all
-    requested-all-requires
+    cast-requested-word
+    requested-word-requires
     returns
     same-length
     returns-2
