@@ -27,6 +27,7 @@ use Rattle.trials.specs.Trials.{Trials}
 use Rattle.trials.specs.History.{Met}
 use Rattle.trials.specs.Winder.{Winds}
 use Rattle.trials.specs.AtOnce.{AtOnce}
+use Rattle.pack.specs.Exact.{OneState}
 use Rattle.text.specs.Claims.{DecimalShort}
 use Rattle.parse.specs.Claims as parse
 use Rattle.script.specs.Claims as script
@@ -74,7 +75,7 @@ pub record EveryHistory : Type 0 where
   pub term-3 : Term3
   pub met : Met
 
--- the programs for the bench and the calls for C
+-- the programs for the bench and the calls for C, whose words are exactly one state
 pub record AtTheBench : Type 0 where
   pub line-cut : parse.CutSame
   pub reply-cut : script.CutSame
@@ -86,6 +87,7 @@ pub record AtTheBench : Type 0 where
   pub tick-fits : Short
   pub drawing-fits : drawing.NoneLonger
   pub refusals : Refusals
+  pub one-state : OneState
 
 -- request #101
 pub record MotorSheet : Type 0 where

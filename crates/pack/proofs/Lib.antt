@@ -1,3 +1,4 @@
 pub mod Tabled
-pub mod Parts
+pub mod Kept
+pub mod Laid
 pub mod Back

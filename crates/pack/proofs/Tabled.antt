@@ -40,7 +40,7 @@ tabled-at f d (suc n) i h = by-test (ltb i n) refl (tabled-at f d n i)
         rw (e) (getD-at (tabulate n f) (f n) [] d n (length-tabled f n))
 
 -- with the elements of a list it is that list
-first-tabled : {A : Type 0} (f : ℕ → A) (d : A) (xs : List A) (n : ℕ) → n ≤ length xs → ((i : ℕ) → i < n → f i ≡ getD xs i d) → tabulate n f ≡ take n xs
+pub first-tabled : {A : Type 0} (f : ℕ → A) (d : A) (xs : List A) (n : ℕ) → n ≤ length xs → ((i : ℕ) → i < n → f i ≡ getD xs i d) → tabulate n f ≡ take n xs
 unfolding tabulate
 first-tabled f d xs zero h same = refl
 first-tabled f d xs (suc n) h same =
@@ -48,3 +48,7 @@ first-tabled f d xs (suc n) h same =
 
 pub tabled-is : {A : Type 0} (f : ℕ → A) (d : A) (xs : List A) (n : ℕ) → length xs ≡ n → ((i : ℕ) → i < n → f i ≡ getD xs i d) → tabulate n f ≡ xs
 tabled-is f d xs n l same = first-tabled f d xs n (le-of-eq (sym l)) same ∙ take-all n xs (le-of-eq l)
+
+-- and with the same values the same list
+pub tabled-same : {A : Type 0} (f g : ℕ → A) (d : A) (n : ℕ) → ((i : ℕ) → i < n → g i ≡ f i) → tabulate n g ≡ tabulate n f
+tabled-same f g d n same = tabled-is g d (tabulate n f) n (length-tabled f n) (λ i l. same i l ∙ sym (tabled-at f d n i l))

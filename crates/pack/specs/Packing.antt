@@ -4,9 +4,10 @@ use Prim.Native.Nat.{ℕ, zero, suc, _+_, _-_}
 use mathlib.Core.Bool.{Bool}
 use mathlib.Core.List.{List, [], _∷_, _++_}
 use mathlib.Core.Path.{_≡_}
-use lib.ListN.{length, getD, replicate}
+use lib.ListN.{length, take, drop, getD, set, replicate}
 use lib.Dec.{eqb, ltb}
 use Rattle.words.specs.Choice.{pick}
+use Rattle.slots.specs.declared.Slots.{Slots}
 use Rattle.unit.specs.declared.Latches.{Latches}
 use Rattle.unit.specs.declared.State.{State}
 use Rattle.unit.specs.TheUnit.{none, resetState}
@@ -50,6 +51,14 @@ zeros = replicate stateWords 0
 unfoldable pub isWhole : List ℕ → Bool
 isWhole s = eqb (length s) stateWords
 
+-- these words with a row from `at` on
+unfoldable pub rowLaid : List ℕ → ℕ → List ℕ → List ℕ
+rowLaid s at row = take at s ++ (row ++ drop (length row) (drop at s))
+
+-- these words with the numbers k kept of channel i
+abbrev pub latchesLaid : List ℕ → ℕ → Latches → List ℕ
+latchesLaid s i k = set (set (set (set s (143 + i) (k .flags)) (159 + i) (k .time)) (179 + i) (k .late)) (195 + i) (k .set)
+
 -- lent words after the state is laid in them
 unfoldable pub laid : State → List ℕ → List ℕ
 laid st s = pick (isWhole s) (packed st) s
@@ -64,6 +73,9 @@ regIn s i = getD s (128 + i) 0
 
 abbrev pub latchesIn : List ℕ → ℕ → Latches
 latchesIn s i = record { flags = getD s (143 + i) 0; time = getD s (159 + i) 0; late = getD s (179 + i) 0; set = getD s (195 + i) 0 }
+
+abbrev pub slotsIn : List ℕ → Slots
+slotsIn s = record { slot = getD s 175 0; high = getD s 176 0; middle = getD s 177 0; low = getD s 178 0 }
 
 unfoldable pub stateIn : List ℕ → State
 stateIn s =

@@ -2,47 +2,24 @@
 ghost use mathlib.Core.Path.{_≡_};
 ghost use Prim.Native.Nat.{_<_};
 ghost use lib.ListN.{length};
-ghost use Rattle.pack.specs.Packing.{tabulate, wordIn, regIn, latchesIn, stateIn};
+ghost use Rattle.pack.specs.Packing.{tabulate, latchesIn, slotsIn};
+use crate::layout;
 use slots::Slots;
 use unit::Latches;
-use unit::State;
-use words::Timers;
-
-fn words_in(s: &[u16]) -> [u16; 128]
-    requires { ⌜ length (now s) ≡ 211 ⌝ }
-    ensures { λ r. ⌜ r ≡ tabulate 128 (wordIn (now (s .entry))) ⌝ }
-{
-    let mut w = [0u16; 128];
-    for i in 0..128 {
-        w[i] = s[i];
-    }
-    w
-}
-
-fn regs_in(s: &[u16]) -> [u16; 12]
-    requires { ⌜ length (now s) ≡ 211 ⌝ }
-    ensures { λ r. ⌜ r ≡ tabulate 12 (regIn (now (s .entry))) ⌝ }
-{
-    let mut w = [0u16; 12];
-    for i in 0..12 {
-        w[i] = s[128 + i];
-    }
-    w
-}
 
 fn latches_in(s: &[u16], i: usize) -> Latches
     requires { ⌜ (length (now s) ≡ 211) × (i < 16) ⌝ }
     ensures { λ r. ⌜ r ≡ latchesIn (now (s .entry)) i ⌝ }
 {
     Latches {
-        flags: s[143 + i],
-        time: s[159 + i],
-        late: s[179 + i],
-        set: s[195 + i],
+        flags: s[layout::FLAGS + i],
+        time: s[layout::TIMES + i],
+        late: s[layout::LATES + i],
+        set: s[layout::SET_TIMES + i],
     }
 }
 
-fn channels_in(s: &[u16]) -> [Latches; 16]
+pub fn channels_in(s: &[u16]) -> [Latches; 16]
     requires { ⌜ length (now s) ≡ 211 ⌝ }
     ensures { λ r. ⌜ r ≡ tabulate 16 (latchesIn (now (s .entry))) ⌝ }
 {
@@ -53,27 +30,14 @@ fn channels_in(s: &[u16]) -> [Latches; 16]
     w
 }
 
-pub fn state_in(s: &[u16]) -> State
+pub fn slots_in(s: &[u16]) -> Slots
     requires { ⌜ length (now s) ≡ 211 ⌝ }
-    ensures { λ r. ⌜ r ≡ stateIn (now (s .entry)) ⌝ }
+    ensures { λ r. ⌜ r ≡ slotsIn (now (s .entry)) ⌝ }
 {
-    let words = words_in(s);
-    let regs = regs_in(s);
-    let channels = channels_in(s);
-    State {
-        words,
-        regs,
-        timers: Timers {
-            tcr1: s[140],
-            tcr2: s[141],
-        },
-        pins: s[142],
-        channels,
-        slots: Slots {
-            slot: s[175],
-            high: s[176],
-            middle: s[177],
-            low: s[178],
-        },
+    Slots {
+        slot: s[layout::SLOTS],
+        high: s[layout::SLOTS + 1],
+        middle: s[layout::SLOTS + 2],
+        low: s[layout::SLOTS + 3],
     }
 }

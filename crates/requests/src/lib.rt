@@ -9,6 +9,7 @@ ghost use Rattle.unit.specs.declared.State.{State};
 ghost use Rattle.pack.specs.Packing.{stateWords, stateIn};
 ghost use Rattle.requests.specs.Told.{told};
 use pack::layout;
+use pack::rows;
 use unit::Answer;
 use words::field;
 
@@ -17,9 +18,7 @@ fn copied(s: &[u16]) -> [u16; layout::WORDS]
     ensures { λ r. ⌜ r ≡ now (s .entry) ⌝ }
 {
     let mut t = [0u16; layout::WORDS];
-    for i in 0..layout::WORDS {
-        t[i] = s[i];
-    }
+    rows::copy(s, &mut t);
     t
 }
 

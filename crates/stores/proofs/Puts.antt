@@ -2,11 +2,10 @@
 use Prim.Native.Nat.{ℕ, _+_, _*_, _<_}
 use mathlib.Core.Bool.{Bool, false}
 use mathlib.Core.List.{List}
-use mathlib.Core.Path.{_≡_, sym, ap, _∙_}
+use mathlib.Core.Path.{_≡_, refl, sym, ap, _∙_}
 use mathlib.Core.Logic.{_≢_}
 use native.Mathlib.Omega.{arith}
 use lib.ListN.{length, getD, set, length-set}
-use lib.Seq.{getD-set-same, getD-set-other}
 use Rattle.words.specs.declared.Timer.{Timer}
 use Rattle.words.specs.declared.Timers.{Timers}
 use Rattle.words.specs.Field.{withField, bitOf, bitValue}
@@ -19,50 +18,39 @@ use Rattle.unit.specs.TheUnit.{wayNumber, timerNumber, latched, none, channel, 
 use Rattle.unit.proofs.InPlace.{level-kept, initialised-kept, set-up-kept, binding-kept, rest-kept, armed-kept, matched-kept, late-kept}
 use Rattle.pack.specs.Packing.{latchesIn, stateIn, Holds}
 use Rattle.pack.proofs.Tabled.{tabled-at}
+use Rattle.pack.proofs.Kept.{other, same, Kept, Apart, kept-next, flags-set, time-set, late-set, set-set}
 use Rattle.cells.proofs.Reading.{channel-in}
-use Rattle.stores.proofs.Writing.{withLatches, word-changed, reg-changed, timers-changed, pins-changed, slots-changed, Beside, beside-changed, beside-flags, beside-time, beside-late, beside-set, beside-none}
-
-other : (s : List ℕ) (k v i : ℕ) → i ≢ k → getD (set s k v) i 0 ≡ getD s i 0
-other s k v i n = getD-set-other s k i v 0 n
-
-same : (s : List ℕ) (k v : ℕ) → length s ≡ 211 → k < 211 → getD (set s k v) k 0 ≡ v
-same s k v z h = getD-set-same s k v 0 (omega (arith, z))
+use Rattle.stores.proofs.Writing.{withLatches, word-changed, reg-changed, timers-changed, pins-changed, slots-changed, latches-changed}
 
 module _ (s : List ℕ) (z : length s ≡ 211) where
   long : (k v : ℕ) → length (set s k v) ≡ 211
   long k v = length-set s k v ∙ z
 
+  -- the word k is stored
+  one : (k v : ℕ) → Kept (λ i. i ≢ k) s (set s k v)
+  one k v i n = other s k v i n
+
   pub word-put : (c i v : ℕ) → c < 16 → i < 8 → Holds (set s (8 * c + i) v) (withWord (stateIn s) c i v)
   unfolding withWord
-  word-put c i v h l =
-      let k : ℕ = 8 * c + i in
-      let m : 8 * c + i < 128 = omega arith in (
-        long (8 * c + i) v,
-        word-changed s (set s (8 * c + i) v) (8 * c + i) m (λ j a b. other s (8 * c + i) v j (λ e. absurd (omega (arith, e, m)))) (λ j a n. other s (8 * c + i) v j n)
-            ∙ ap (λ x. withWords (stateIn s) (set ((stateIn s) .words) (8 * c + i) x)) (same s (8 * c + i) v z (omega arith)),
-      )
+  word-put c i v h l = (
+    long (8 * c + i) v,
+    word-changed s (set s (8 * c + i) v) (8 * c + i) (omega arith) (one (8 * c + i) v)
+        ∙ ap (λ x. withWords (stateIn s) (set ((stateIn s) .words) (8 * c + i) x)) (same s (8 * c + i) v z (omega arith)),
+  )
 
   pub reg-put : (i v : ℕ) → i < 12 → Holds (set s (128 + i) v) (withReg (stateIn s) i v)
-  reg-put i v h = (
-    long (128 + i) v,
-    reg-changed s (set s (128 + i) v) i h (λ j a b. other s (128 + i) v j (λ e. absurd (omega (arith, e)))) (λ j a b. other s (128 + i) v j (λ e. absurd (omega (arith, e)))) (λ j a n. other s (128 + i) v (128 + j) (λ e. n (omega (arith, e))))
-        ∙ ap (withReg (stateIn s) i) (same s (128 + i) v z (omega arith)),
-  )
+  reg-put i v h = (long (128 + i) v, reg-changed s (set s (128 + i) v) i h (one (128 + i) v) ∙ ap (withReg (stateIn s) i) (same s (128 + i) v z (omega arith)))
 
   pub pins-put : (v : ℕ) → Holds (set s 142 v) (withPins (stateIn s) v)
-  pins-put v = (
-    long 142 v,
-    pins-changed s (set s 142 v) (λ j a b. other s 142 v j (λ e. absurd (omega (arith, e)))) (λ j a b. other s 142 v j (λ e. absurd (omega (arith, e))))
-        ∙ ap (withPins (stateIn s)) (same s 142 v z (omega arith)),
-  )
+  pins-put v = (long 142 v, pins-changed s (set s 142 v) (one 142 v) ∙ ap (withPins (stateIn s)) (same s 142 v z (omega arith)))
 
   stored : (c : ℕ) (x : Channel) → c < 16 → withChannel (stateIn s) c x ≡ withLatches (stateIn s) c (latched (latchesIn s c) x)
   unfolding withChannel withLatches stateIn
   stored c x h = ap (λ (k : Latches). withLatches (stateIn s) c (latched k x)) (tabled-at (latchesIn s) none 16 c h)
 
   -- t has other numbers kept of c: those of the channel x
-  kept-put : (t : List ℕ) (c : ℕ) (x : Channel) → c < 16 → length t ≡ 211 → Beside s t c → latchesIn t c ≡ latched (latchesIn s c) x → Holds t (withChannel (stateIn s) c x)
-  kept-put t c x h l b e = (l, beside-changed s t c h b ∙ ap (withLatches (stateIn s) c) e ∙ sym (stored c x h))
+  kept-put : (t : List ℕ) (c : ℕ) (x : Channel) → c < 16 → length t ≡ 211 → Kept (Apart c) s t → latchesIn t c ≡ latched (latchesIn s c) x → Holds t (withChannel (stateIn s) c x)
+  kept-put t c x h l b e = (l, latches-changed s t c h b ∙ ap (withLatches (stateIn s) c) e ∙ sym (stored c x h))
 
   module _ (c : ℕ) (h : c < 16) where
     abbrev now : Latches
@@ -71,17 +59,16 @@ module _ (s : List ℕ) (z : length s ≡ 211) where
     pub late-put : (n : ℕ) → Holds (set s (179 + c) n) (withLate (stateIn s) c n)
     unfolding withLate
     late-put n =
-        rw (channel-in s c h) (kept-put (set s (179 + c) n) c _ h (long (179 + c) n) (beside-late s s c n (beside-none s c)) (kept ∙ sym (late-kept now n)))
-      where
-        kept : latchesIn (set s (179 + c) n) c ≡ record { flags = now .flags; time = now .time; late = n; set = now .set }
-        kept = rw (same s (179 + c) n z (omega arith), other s (179 + c) n (143 + c) (λ e. absurd (omega (arith, e))), other s (179 + c) n (159 + c) (λ e. absurd (omega (arith, e))), other s (179 + c) n (195 + c) (λ e. absurd (omega (arith, e))))
+        rw (channel-in s c h)
+        (kept-put (set s (179 + c) n) c _ h (long (179 + c) n) (kept-next (Apart c) s s (179 + c) n (omega arith) (λ i m. refl))
+        (late-set s z c n h ∙ sym (late-kept now n)))
+
+    flags-kept : (f : ℕ) → Kept (Apart c) s (set s (143 + c) f)
+    flags-kept f = kept-next (Apart c) s s (143 + c) f (omega arith) (λ i m. refl)
 
     -- new flags, that make the numbers those of the channel x
     flags-put : (f : ℕ) (x : Channel) → latched now x ≡ record { flags = f; time = now .time; late = now .late; set = now .set } → Holds (set s (143 + c) f) (withChannel (stateIn s) c x)
-    flags-put f x e = kept-put (set s (143 + c) f) c x h (long (143 + c) f) (beside-flags s s c f (beside-none s c)) (kept ∙ sym e)
-      where
-        kept : latchesIn (set s (143 + c) f) c ≡ record { flags = f; time = now .time; late = now .late; set = now .set }
-        kept = rw (same s (143 + c) f z (omega arith), other s (143 + c) f (159 + c) (λ e. absurd (omega (arith, e))), other s (143 + c) f (179 + c) (λ e. absurd (omega (arith, e))), other s (143 + c) f (195 + c) (λ e. absurd (omega (arith, e))))
+    flags-put f x e = kept-put (set s (143 + c) f) c x h (long (143 + c) f) (flags-kept f) (flags-set s z c f h ∙ sym e)
 
     pub level-put : (on : Bool) → Holds (set s (143 + c) (withField 1 (now .flags) 1 (bitValue on))) (withLevel (stateIn s) c on)
     unfolding withLevel
@@ -110,66 +97,37 @@ module _ (s : List ℕ) (z : length s ≡ 211) where
     pub arm-put : (w : Way) (t : ℕ) → Holds (set (set s (143 + c) (stands w 2)) (159 + c) t) (withPhase (stateIn s) c w (Armed t))
     unfolding withPhase
     arm-put w t =
-        rw (channel-in s c h) (kept-put (set a (159 + c) t) c _ h (length-set a (159 + c) t ∙ l) (beside-time s a c t (beside-flags s s c (stands w 2) (beside-none s c))) (kept ∙ sym (armed-kept now w t)))
-      where
-        a : List ℕ
-        a = set s (143 + c) (stands w 2)
-
-        l : length a ≡ 211
-        l = long (143 + c) (stands w 2)
-
-        kept : latchesIn (set a (159 + c) t) c ≡ record { flags = stands w 2; time = t; late = now .late; set = now .set }
-        kept =
-            rw (
-              same a (159 + c) t l (omega arith),
-              other a (159 + c) t (143 + c) (λ e. absurd (omega (arith, e))),
-              other a (159 + c) t (179 + c) (λ e. absurd (omega (arith, e))),
-              other a (159 + c) t (195 + c) (λ e. absurd (omega (arith, e))),
-              same s (143 + c) (stands w 2) z (omega arith),
-              other s (143 + c) (stands w 2) (179 + c) (λ e. absurd (omega (arith, e))),
-              other s (143 + c) (stands w 2) (195 + c) (λ e. absurd (omega (arith, e))),
-            )
+        let a = set s (143 + c) (stands w 2) in
+        let l = long (143 + c) (stands w 2) in
+        let flags = flags-set s z c (stands w 2) h in
+        let kept = time-set a l c t h ∙ ap (λ (k : Latches). record { flags = k .flags; time = t; late = k .late; set = k .set }) flags in
+        rw (channel-in s c h)
+        (kept-put (set a (159 + c) t) c _ h (length-set a (159 + c) t ∙ l) (kept-next (Apart c) s a (159 + c) t (omega arith) (flags-kept (stands w 2)))
+        (kept ∙ sym (armed-kept now w t)))
 
     pub happen-put : (w : Way) (n t : ℕ) → Holds (set (set (set s (143 + c) (stands w 3)) (159 + c) n) (195 + c) t) (withPhase (stateIn s) c w (Matched n t))
     unfolding withPhase
     happen-put w n t =
-        rw (channel-in s c h) (kept-put (set b (195 + c) t) c _ h (length-set b (195 + c) t ∙ m) (beside-set s b c t (beside-time s a c n (beside-flags s s c (stands w 3) (beside-none s c)))) (kept ∙ sym (matched-kept now w n t)))
-      where
-        a : List ℕ
-        a = set s (143 + c) (stands w 3)
-
-        b : List ℕ
-        b = set a (159 + c) n
-
-        l : length a ≡ 211
-        l = long (143 + c) (stands w 3)
-
-        m : length b ≡ 211
-        m = length-set a (159 + c) n ∙ l
-
-        kept : latchesIn (set b (195 + c) t) c ≡ record { flags = stands w 3; time = n; late = now .late; set = t }
-        kept =
-            rw (
-              same b (195 + c) t m (omega arith),
-              other b (195 + c) t (143 + c) (λ e. absurd (omega (arith, e))),
-              other b (195 + c) t (159 + c) (λ e. absurd (omega (arith, e))),
-              other b (195 + c) t (179 + c) (λ e. absurd (omega (arith, e))),
-              same a (159 + c) n l (omega arith),
-              other a (159 + c) n (143 + c) (λ e. absurd (omega (arith, e))),
-              other a (159 + c) n (179 + c) (λ e. absurd (omega (arith, e))),
-              same s (143 + c) (stands w 3) z (omega arith),
-              other s (143 + c) (stands w 3) (179 + c) (λ e. absurd (omega (arith, e))),
-            )
+        let a = set s (143 + c) (stands w 3) in
+        let b = set a (159 + c) n in
+        let l = long (143 + c) (stands w 3) in
+        let m = length-set a (159 + c) n ∙ l in
+        let kept =
+        set-set b m c t h
+        ∙ ap (λ (k : Latches). record { flags = k .flags; time = k .time; late = k .late; set = t }) (time-set a l c n h)
+        ∙ ap (λ (k : Latches). record { flags = k .flags; time = n; late = k .late; set = t }) (flags-set s z c (stands w 3) h) in
+        rw (channel-in s c h)
+        (kept-put (set b (195 + c) t) c _ h (length-set b (195 + c) t ∙ m)
+        (kept-next (Apart c) s b (195 + c) t (omega arith) (kept-next (Apart c) s a (159 + c) n (omega arith) (flags-kept (stands w 3))))
+        (kept ∙ sym (matched-kept now w n t)))
 
   pub timers-put : (t : Timers) → Holds (set (set s 140 (t .tcr1)) 141 (t .tcr2)) (withTimers (stateIn s) t)
   timers-put t =
       let a : List ℕ = set s 140 (t .tcr1) in
       let l : length a ≡ 211 = long 140 (t .tcr1) in (
         length-set a 141 (t .tcr2) ∙ l,
-        timers-changed s (set a 141 (t .tcr2))
-            (λ j p q. other a 141 (t .tcr2) j (λ e. absurd (omega (arith, e))) ∙ other s 140 (t .tcr1) j (λ e. absurd (omega (arith, e))))
-            (λ j p q. other a 141 (t .tcr2) j (λ e. absurd (omega (arith, e))) ∙ other s 140 (t .tcr1) j (λ e. absurd (omega (arith, e))))
-            ∙ ap (withTimers (stateIn s)) (rw (same a 141 (t .tcr2) l (omega arith), other a 141 (t .tcr2) 140 (λ e. absurd (omega (arith, e))), same s 140 (t .tcr1) z (omega arith))),
+        timers-changed s (set a 141 (t .tcr2)) (λ j n. other a 141 (t .tcr2) j (n .1) ∙ other s 140 (t .tcr1) j (n .0))
+            ∙ ap (withTimers (stateIn s)) (rw (same a 141 (t .tcr2) l (omega arith), other a 141 (t .tcr2) 140 (omega arith), same s 140 (t .tcr1) z (omega arith))),
       )
 
   pub slots-put : (t : Slots) → Holds (set (set (set (set s 175 (t .slot)) 176 (t .high)) 177 (t .middle)) 178 (t .low)) (withSlots (stateIn s) t)
@@ -179,22 +137,20 @@ module _ (s : List ℕ) (z : length s ≡ 211) where
       let d : List ℕ = set b 177 (t .middle) in
       let l : length a ≡ 211 = long 175 (t .slot) in
       let m : length b ≡ 211 = length-set a 176 (t .high) ∙ l in
-      let n : length d ≡ 211 = length-set b 177 (t .middle) ∙ m in
-      let apart : (j : ℕ) → j ≢ 175 → j ≢ 176 → j ≢ 177 → j ≢ 178 → getD (set d 178 (t .low)) j 0 ≡ getD s j 0 = λ j p q r u. other d 178 (t .low) j u ∙ other b 177 (t .middle) j r ∙ other a 176 (t .high) j q ∙ other s 175 (t .slot) j p in (
+      let n : length d ≡ 211 = length-set b 177 (t .middle) ∙ m in (
         length-set d 178 (t .low) ∙ n,
         slots-changed s (set d 178 (t .low))
-            (λ j p q. apart j (λ e. absurd (omega (arith, e))) (λ e. absurd (omega (arith, e))) (λ e. absurd (omega (arith, e))) (λ e. absurd (omega (arith, e))))
-            (λ j p q. apart j (λ e. absurd (omega (arith, e))) (λ e. absurd (omega (arith, e))) (λ e. absurd (omega (arith, e))) (λ e. absurd (omega (arith, e))))
+            (λ j o. other d 178 (t .low) j (o .3) ∙ other b 177 (t .middle) j (o .2) ∙ other a 176 (t .high) j (o .1) ∙ other s 175 (t .slot) j (o .0))
             ∙ ap (withSlots (stateIn s)) (rw (
               same d 178 (t .low) n (omega arith),
-              other d 178 (t .low) 177 (λ e. absurd (omega (arith, e))),
-              other d 178 (t .low) 176 (λ e. absurd (omega (arith, e))),
-              other d 178 (t .low) 175 (λ e. absurd (omega (arith, e))),
+              other d 178 (t .low) 177 (omega arith),
+              other d 178 (t .low) 176 (omega arith),
+              other d 178 (t .low) 175 (omega arith),
               same b 177 (t .middle) m (omega arith),
-              other b 177 (t .middle) 176 (λ e. absurd (omega (arith, e))),
-              other b 177 (t .middle) 175 (λ e. absurd (omega (arith, e))),
+              other b 177 (t .middle) 176 (omega arith),
+              other b 177 (t .middle) 175 (omega arith),
               same a 176 (t .high) l (omega arith),
-              other a 176 (t .high) 175 (λ e. absurd (omega (arith, e))),
+              other a 176 (t .high) 175 (omega arith),
               same s 175 (t .slot) z (omega arith),
             )),
       )

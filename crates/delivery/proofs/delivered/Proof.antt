@@ -27,6 +27,7 @@ use Rattle.trials.proofs.Trials.{trials}
 use Rattle.trials.proofs.History.{met}
 use Rattle.trials.proofs.Winder.{winds}
 use Rattle.trials.proofs.AtOnce.{at-once}
+use Rattle.pack.proofs.Back.{one-state}
 use Rattle.text.proofs.LengthLaws.{decimal-short}
 use Rattle.parse.proofs.LineLaws as parse
 use Rattle.script.proofs.LengthLaws as script
@@ -78,6 +79,7 @@ bench =
       tick-fits = short;
       drawing-fits = drawing.none-longer;
       refusals = refusals;
+      one-state = one-state;
     }
 
 sheet : MotorSheet
