@@ -65,7 +65,7 @@ fn period(cntl0: u16, cntl1: u16, rate: u16) {
     number(cntl1);
     number(rate);
     text(b" =");
-    number(motor::step::period(cntl0, cntl1, rate));
+    number(step::period(cntl0, cntl1, rate));
     text(b"\n");
 }
 
@@ -232,7 +232,7 @@ fn onward(t: Journey, at: u16, then: u16) -> Journey {
     match next {
         Outcome::Arrived => t,
         Outcome::Step(way, rate) => {
-            let p = motor::step::period(20, 440, t.m.rate);
+            let p = step::period(20, 440, t.m.rate);
             let m = stepped(t.m, way, rate, at, then);
             number(m.position);
             text(b":");
@@ -247,7 +247,7 @@ fn onward(t: Journey, at: u16, then: u16) -> Journey {
 }
 
 fn stepped(m: Motor, way: Way, rate: u16, at: u16, then: u16) -> Motor {
-    let position = motor::step::beside(way, m.position);
+    let position = step::beside(way, m.position);
     let target = if position == at { then } else { m.target };
     Motor {
         position,

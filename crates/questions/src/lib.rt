@@ -5,7 +5,6 @@ ghost use lib.ListN.{length};
 ghost use Rattle.unit.specs.TheUnit.{all, size, modCount};
 ghost use Rattle.unit.specs.Gate.{isStepper, isTimed, mayInitialise, otherwiseZero, spanGood, isReady, groupReady, showsPattern, patternGood, rampGood, quickGood, targetGood};
 ghost use Rattle.pack.specs.Packing.{stateWords, stateIn};
-use motor::step;
 use unit::State;
 use words::Timer;
 use words::clock;

@@ -36,7 +36,7 @@ fn periods(out: &mut [u8], at: usize, n: u8, cntl0: u16, cntl1: u16) -> usize
 {
     let mut next = at;
     for r in 0..n {
-        let p = motor::step::period(cntl0, cntl1, r as u16 + 1);
+        let p = step::period(cntl0, cntl1, r as u16 + 1);
         next = number(out, next, p as u64);
     }
     next

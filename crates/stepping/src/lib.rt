@@ -12,7 +12,6 @@ use channel::pattern;
 use motor::Motor;
 use motor::Outcome;
 use motor::Way;
-use motor::step;
 use unit::State;
 use words::clock;
 use words::field;
