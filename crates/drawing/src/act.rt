@@ -103,6 +103,6 @@ fn refusal_note(out: &mut [u8], q: u8) -> usize
     ensures { λ r. ⌜ Wrote (now (out .entry)) 0 (refusalNote q) r (now (out .exit)) ⌝ }
 {
     let a = text::bytes(out, 0, b"$comment N ");
-    let b = text::decimal(out, a, q as u64);
+    let b = printing::decimal(out, a, q as u64);
     text::bytes(out, b, b" $end\n")
 }

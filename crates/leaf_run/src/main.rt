@@ -24,7 +24,7 @@ fn number(n: u16) {
 fn word(w: u16) {
     text(b" $");
     let mut digits = [0u8; 4];
-    text::word(&mut digits, 0, w);
+    printing::word(&mut digits, 0, w);
     text(&digits);
 }
 

@@ -14,7 +14,7 @@ pub fn answer(out: &mut [u8], letter: u8, n: u8, counts: Counts) -> usize
             step_cntl0,
             step_cntl1,
         } => taken(out, letter, n, step_cntl0, step_cntl1),
-        Counts::Refused(q) => text::number_line(out, 0, b'N', q as u64),
+        Counts::Refused(q) => printing::number_line(out, 0, b'N', q as u64),
     }
 }
 
@@ -23,9 +23,9 @@ fn taken(out: &mut [u8], letter: u8, n: u8, cntl0: u16, cntl1: u16) -> usize
     ensures { λ r. ⌜ Wrote (now (out .entry)) 0 (taken letter n cntl0 cntl1) r (now (out .exit)) ⌝ }
 {
     let a = text::pair(out, 0, letter, b' ');
-    let b = text::word(out, a, cntl0);
+    let b = printing::word(out, a, cntl0);
     let c = text::put(out, b, b' ');
-    let d = text::word(out, c, cntl1);
+    let d = printing::word(out, c, cntl1);
     let e = periods(out, d, n, cntl0, cntl1);
     text::put(out, e, b'\n')
 }
@@ -47,5 +47,5 @@ fn number(out: &mut [u8], at: usize, n: u64) -> usize
     ensures { λ r. ⌜ Wrote (now (out .entry)) at (32 ∷ decimal n) r (now (out .exit)) ⌝ }
 {
     let a = text::put(out, at, b' ');
-    text::decimal(out, a, n)
+    printing::decimal(out, a, n)
 }

@@ -82,7 +82,7 @@ fn wire_value(out: &mut [u8], at: usize, all: bool, old: u32, v: u32, id: u8) ->
     if !(all | (old != v)) {
         return at;
     }
-    let a = text::decimal(out, at, v as u64);
+    let a = printing::decimal(out, at, v as u64);
     text::bytes(out, a, &[id, b'\n'])
 }
 
@@ -112,7 +112,7 @@ fn binary(out: &mut [u8], at: usize, w: u16) -> usize
 {
     let mut next = at;
     for k in 0..16 {
-        next = text::decimal(out, next, level(field::bit(w, 15 - k)) as u64);
+        next = printing::decimal(out, next, level(field::bit(w, 15 - k)) as u64);
     }
     next
 }

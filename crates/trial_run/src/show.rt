@@ -53,7 +53,7 @@ pub fn route(name: &[u8], from: u16, to: u16) {
 
 fn hex(w: u16) {
     let mut digits = [0u8; 4];
-    text::word(&mut digits, 0, w);
+    printing::word(&mut digits, 0, w);
     text(&digits);
 }
 

@@ -19,9 +19,9 @@ fn signal(out: &mut [u8], at: usize, width: u64, id: u8, name: &[u8], c: u64) ->
     ensures { λ r. ⌜ Wrote (now (out .entry)) at (declaration width id (now (name .entry)) c) r (now (out .exit)) ⌝ }
 {
     let a = text::bytes(out, at, b"$var wire ");
-    let b = text::decimal(out, a, width);
+    let b = printing::decimal(out, a, width);
     let d = text::bytes(out, b, &[b' ', id, b' ']);
     let e = text::bytes(out, d, name);
-    let f = text::decimal(out, e, c);
+    let f = printing::decimal(out, e, c);
     text::bytes(out, f, b" $end\n")
 }

@@ -35,7 +35,7 @@ pub fn changes(out: &mut [u8], at: usize, tick: u64, old: State, s: State) -> us
     ensures { λ r. ⌜ Wrote (now (out .entry)) at (changes tick old s) r (now (out .exit)) ⌝ }
 {
     let a = text::put(out, at, b'#');
-    let b = text::decimal(out, a, tick);
+    let b = printing::decimal(out, a, tick);
     let c = text::put(out, b, b'\n');
     signals::values(out, c, false, old, s)
 }
