@@ -12,7 +12,6 @@ ghost use Rattle.unit.specs.TheUnit.{last, withBinding, stepping, isBound};
 ghost use Rattle.unit.specs.Gate.{isFree, requested};
 ghost use Rattle.pack.specs.Packing.{stateWords, stateIn, Holds};
 use motor::Phase;
-use words::field;
 
 // A phase in which the group is bound.
 fn bound(p: Phase) -> bool
@@ -105,7 +104,7 @@ pub fn lone(v: u16) -> u16
     ensures { λ r. ⌜ (r < 8 → (k : ℕ) → k < 8 → k ≢ r → field 2 v (2 * k) ≡ 0) ⌝ }
 {
     let k = u16::trailing_zeros(v) as u16 / 2;
-    if field::with_pair(v, k, 0) != 0 {
+    if bitfield::with_pair(v, k, 0) != 0 {
         return 8;
     }
     k

@@ -12,7 +12,6 @@ use pack::layout;
 use slots::Slots;
 use words::Timer;
 use words::Timers;
-use words::field;
 
 // Word i of channel c.
 pub fn word(s: &[u16], c: u16, i: u16) -> u16
@@ -62,21 +61,21 @@ pub fn initialised(s: &[u16], c: u16) -> bool
     requires { ⌜ (length (now s) ≡ stateWords) × (c < 16) ⌝ }
     ensures { λ r. ⌜ r ≡ (channel (stateIn (now (s .entry))) c) .initialised ⌝ }
 {
-    field::bit(s[layout::FLAGS + c as usize], 0)
+    bitfield::bit(s[layout::FLAGS + c as usize], 0)
 }
 
 pub fn level(s: &[u16], c: u16) -> bool
     requires { ⌜ (length (now s) ≡ stateWords) × (c < 16) ⌝ }
     ensures { λ r. ⌜ r ≡ (channel (stateIn (now (s .entry))) c) .level ⌝ }
 {
-    field::bit(s[layout::FLAGS + c as usize], 1)
+    bitfield::bit(s[layout::FLAGS + c as usize], 1)
 }
 
 pub fn way(s: &[u16], c: u16) -> Way
     requires { ⌜ (length (now s) ≡ stateWords) × (c < 16) ⌝ }
     ensures { λ r. ⌜ r ≡ (channel (stateIn (now (s .entry))) c) .way ⌝ }
 {
-    decode::way_from(field::bit(s[layout::FLAGS + c as usize], 2))
+    decode::way_from(bitfield::bit(s[layout::FLAGS + c as usize], 2))
 }
 
 pub fn phase(s: &[u16], c: u16) -> Phase
@@ -92,14 +91,14 @@ pub fn kind(s: &[u16], c: u16) -> Timer
     requires { ⌜ (length (now s) ≡ stateWords) × (c < 16) ⌝ }
     ensures { λ r. ⌜ r ≡ (channel (stateIn (now (s .entry))) c) .kind ⌝ }
 {
-    decode::timer_from(field::bit(s[layout::FLAGS + c as usize], 5))
+    decode::timer_from(bitfield::bit(s[layout::FLAGS + c as usize], 5))
 }
 
 pub fn timer(s: &[u16], c: u16) -> Timer
     requires { ⌜ (length (now s) ≡ stateWords) × (c < 16) ⌝ }
     ensures { λ r. ⌜ r ≡ (channel (stateIn (now (s .entry))) c) .timer ⌝ }
 {
-    decode::timer_from(field::bit(s[layout::FLAGS + c as usize], 6))
+    decode::timer_from(bitfield::bit(s[layout::FLAGS + c as usize], 6))
 }
 
 pub fn late(s: &[u16], c: u16) -> u16

@@ -15,7 +15,6 @@ use unit::Place;
 use unit::Reading;
 use unit::State;
 use unit::Verdict;
-use words::field;
 
 // A word by its place among all. A write to CHANNEL_CONTROL makes its channel uninitialised.
 fn stored(s: &mut [u16], at: u16, v: u16)
@@ -34,7 +33,7 @@ fn requested_all(s: &mut [u16], a: u16, v: u16)
     ensures { λ _. ⌜ Holds (now (s .exit)) (each 8 a (requestedOne v) (stateIn (now (s .entry)))) ⌝ }
 {
     for k in 0..8 {
-        let r = field::pair(v, a + k);
+        let r = bitfield::pair(v, a + k);
         if 2 <= r {
             binding::requested(s, a + k, r);
         }
@@ -48,7 +47,7 @@ fn requested_word(s: &mut [u16], a: u16, v: u16)
 {
     let k = binding::lone(v);
     if k < 8 {
-        binding::requested(s, a + k, field::pair(v, k));
+        binding::requested(s, a + k, bitfield::pair(v, k));
         return;
     }
     requested_all(s, a, v);

@@ -5,7 +5,6 @@ ghost use lib.ListN.{length};
 ghost use Rattle.words.specs.Field.{field};
 ghost use Rattle.unit.specs.TheUnit.{exists, modCount, nextRate, top, last, word, cntl0, cntl1, size};
 ghost use Rattle.pack.specs.Packing.{stateWords, stateIn};
-use words::field;
 
 // The last two channels have two words more than the others.
 pub fn exists(c: u16, i: u16) -> bool
@@ -21,14 +20,14 @@ pub fn mod_count(s: &[u16], c: u16) -> u16
     requires { ⌜ (length (now s) ≡ stateWords) × (c < 16) ⌝ }
     ensures { λ r. ⌜ r ≡ modCount (stateIn (now (s .entry))) c ⌝ }
 {
-    field::nibble(cells::word(s, c, 4), 2)
+    bitfield::nibble(cells::word(s, c, 4), 2)
 }
 
 pub fn next_rate(s: &[u16], c: u16) -> u16
     requires { ⌜ (length (now s) ≡ stateWords) × (c < 16) ⌝ }
     ensures { λ r. ⌜ r ≡ nextRate (stateIn (now (s .entry))) c ⌝ }
 {
-    field::nibble(cells::word(s, c, 4), 0)
+    bitfield::nibble(cells::word(s, c, 4), 0)
 }
 
 // N, the highest rate.
@@ -36,7 +35,7 @@ pub fn top(s: &[u16], c: u16) -> u16
     requires { ⌜ (length (now s) ≡ stateWords) × (c < 16) ⌝ }
     ensures { λ r. ⌜ r ≡ top (stateIn (now (s .entry))) c ⌝ }
 {
-    field::nibble(cells::word(s, c, 5), 2)
+    bitfield::nibble(cells::word(s, c, 5), 2)
 }
 
 // LAST_SEC_CHAN.
@@ -44,7 +43,7 @@ pub fn last(s: &[u16], c: u16) -> u16
     requires { ⌜ (length (now s) ≡ stateWords) × (c < 16) ⌝ }
     ensures { λ r. ⌜ r ≡ last (stateIn (now (s .entry))) c ⌝ }
 {
-    field::nibble(cells::word(s, c, 5), 0)
+    bitfield::nibble(cells::word(s, c, 5), 0)
 }
 
 // A word of the channel after c, 0 where there is none.
@@ -78,7 +77,7 @@ pub fn cntl1(s: &[u16], c: u16) -> u16
 fn size_in(w: u16, c: u16) -> u16
     ensures { λ r. ⌜ r ≡ suc (field 4 w 0) - c ⌝ }
 {
-    let l = field::nibble(w, 0);
+    let l = bitfield::nibble(w, 0);
     if c <= l { l - c + 1 } else { 0 }
 }
 

@@ -4,9 +4,6 @@ use libc::STDOUT_FILENO;
 use motor::Motor;
 use motor::Outcome;
 use motor::Way;
-use words::clock;
-use words::field;
-use words::rotation;
 
 fn text(t: &[u8]) {
     io::write_all(STDOUT_FILENO, t);
@@ -121,7 +118,7 @@ fn patterns() {
 }
 
 fn level(pattern: u16, count: u16) {
-    flag(field::bit(rotation::rotate(pattern, count), 15));
+    flag(bitfield::bit(rotation::rotate(pattern, count), 15));
 }
 
 fn rotate(w: u16, places: u16) {
@@ -153,9 +150,9 @@ fn read(w: u16, i: u16) {
     word(w);
     number(i);
     text(b" =");
-    number(field::nibble(w, i));
-    number(field::pair(w, i));
-    flag(field::bit(w, i));
+    number(bitfield::nibble(w, i));
+    number(bitfield::pair(w, i));
+    flag(bitfield::bit(w, i));
     text(b"\n");
 }
 
@@ -165,9 +162,9 @@ fn set(w: u16, i: u16, v: u16) {
     number(i);
     word(v);
     text(b" =");
-    word(field::with_nibble(w, i, v));
-    word(field::with_pair(w, i, v));
-    word(field::with_bit(w, i, v % 2 == 1));
+    word(bitfield::with_nibble(w, i, v));
+    word(bitfield::with_pair(w, i, v));
+    word(bitfield::with_bit(w, i, v % 2 == 1));
     text(b"\n");
 }
 

@@ -8,7 +8,6 @@ ghost use Rattle.unit.specs.Stepping.{pinOut, pinsOut};
 ghost use Rattle.unit.specs.OneTick.{matchOf, matched, clocked};
 ghost use Rattle.pack.specs.Packing.{stateWords, stateIn, Holds};
 use motor::Phase;
-use words::clock;
 
 // The time of the group of c.
 pub fn time_for(s: &[u16], c: u16) -> u16

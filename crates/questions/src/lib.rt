@@ -7,9 +7,6 @@ ghost use Rattle.unit.specs.Gate.{isStepper, isTimed, mayInitialise, otherwiseZ
 ghost use Rattle.pack.specs.Packing.{stateWords, stateIn};
 use unit::State;
 use words::Timer;
-use words::clock;
-use words::field;
-use words::rotation;
 
 // P(N) is at least so many counts of the group's timer.
 const MIN_PERIOD: u16 = 128;
@@ -26,7 +23,7 @@ pub fn is_stepper(s: &[u16], c: u16) -> bool
 fn is_timed(control: u16) -> bool
     ensures { λ r. ⌜ r ≡ isTimed control ⌝ }
 {
-    let timing = field::timing(control);
+    let timing = bitfield::timing(control);
     if timing == 4 {
         return true;
     }
@@ -42,20 +39,20 @@ pub fn may_initialise(s: &[u16], c: u16) -> bool
     if !is_timed(control) {
         return false;
     }
-    if field::bit(cells::word(s, c, 1), 15) {
-        return field::pair(control, 0) == 1;
+    if bitfield::bit(cells::word(s, c, 1), 15) {
+        return bitfield::pair(control, 0) == 1;
     }
-    field::pair(control, 0) == 2
+    bitfield::pair(control, 0) == 2
 }
 
 // The two nibbles of words 4 and 5 that no field has are 0.
 fn otherwise_zero(w: u16) -> bool
     ensures { λ r. ⌜ r ≡ otherwiseZero w ⌝ }
 {
-    if field::nibble(w, 3) != 0 {
+    if bitfield::nibble(w, 3) != 0 {
         return false;
     }
-    field::nibble(w, 1) == 0
+    bitfield::nibble(w, 1) == 0
 }
 
 // Question 5.

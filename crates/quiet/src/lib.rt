@@ -12,7 +12,6 @@ use motor::Phase;
 use unit::State;
 use words::Timer;
 use words::Timers;
-use words::clock;
 
 // Before the tick in which a match set for `time` is due.
 fn until_due(time: u16, timer: Timer, timers: Timers) -> u32

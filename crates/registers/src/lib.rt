@@ -5,7 +5,6 @@ ghost use lib.ListN.{length};
 ghost use Rattle.unit.specs.TheUnit.{cfsrOf, hsrrOf, cprOf, function, request, withRequest, priority};
 ghost use Rattle.pack.specs.Packing.{stateWords, stateIn, Holds};
 use unit::State;
-use words::field;
 
 // The CFSR word of channel c.
 fn cfsr_of(c: u16) -> u16
@@ -33,7 +32,7 @@ pub fn function(s: &[u16], c: u16) -> u16
     requires { ⌜ (length (now s) ≡ stateWords) × (c < 16) ⌝ }
     ensures { λ r. ⌜ r ≡ function (stateIn (now (s .entry))) c ⌝ }
 {
-    field::nibble(cells::reg(s, cfsr_of(c)), c)
+    bitfield::nibble(cells::reg(s, cfsr_of(c)), c)
 }
 
 // The pending request of a channel: 0 none, 2 initialise, 3 step.
@@ -41,7 +40,7 @@ pub fn request(s: &[u16], c: u16) -> u16
     requires { ⌜ (length (now s) ≡ stateWords) × (c < 16) ⌝ }
     ensures { λ r. ⌜ r ≡ request (stateIn (now (s .entry))) c ⌝ }
 {
-    field::pair(cells::reg(s, hsrr_of(c)), c)
+    bitfield::pair(cells::reg(s, hsrr_of(c)), c)
 }
 
 pub fn put_request(s: &mut [u16], c: u16, r: u16)
@@ -49,7 +48,7 @@ pub fn put_request(s: &mut [u16], c: u16, r: u16)
     ensures { λ _. ⌜ Holds (now (s .exit)) (withRequest (stateIn (now (s .entry))) c r) ⌝ }
 {
     let i = hsrr_of(c);
-    let w = field::with_pair(cells::reg(s, i), c, r);
+    let w = bitfield::with_pair(cells::reg(s, i), c, r);
     stores::put_reg(s, i, w);
 }
 
@@ -58,5 +57,5 @@ pub fn priority(s: &[u16], c: u16) -> u16
     requires { ⌜ (length (now s) ≡ stateWords) × (c < 16) ⌝ }
     ensures { λ r. ⌜ r ≡ priority (stateIn (now (s .entry))) c ⌝ }
 {
-    field::pair(cells::reg(s, cpr_of(c)), c)
+    bitfield::pair(cells::reg(s, cpr_of(c)), c)
 }

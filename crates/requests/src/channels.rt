@@ -10,7 +10,6 @@ ghost use Rattle.unit.specs.Gate.{Yes, No, isStepper, requested, askInitialise,
 ghost use Rattle.pack.specs.Packing.{stateWords, stateIn};
 ghost use Rattle.requests.specs.Told.{told, askRamp};
 use unit::Answer;
-use words::field;
 
 // Questions 2 to 4.
 fn ask_initialise(s: &[u16], c: u16) -> Answer
@@ -133,7 +132,7 @@ pub fn ask_channels(s: &mut [u16], a: u16, v: u16) -> Answer
 {
     let mut t = Answer::Taken;
     for k in 0..8 {
-        let r = field::pair(v, a + k);
+        let r = bitfield::pair(v, a + k);
         if 2 <= r {
             t = ask_next(s, t, a + k, r);
         }

@@ -11,7 +11,6 @@ ghost use Rattle.requests.specs.Told.{told};
 use pack::layout;
 use pack::rows;
 use unit::Answer;
-use words::field;
 
 fn copied(s: &[u16]) -> [u16; layout::WORDS]
     requires { ⌜ length (now s) ≡ stateWords ⌝ }
@@ -38,7 +37,7 @@ pub fn asked(s: &[u16], a: u16, v: u16) -> Answer
 {
     let k = binding::lone(v);
     if k < 8 {
-        return channels::ask_channel(s, a + k, field::pair(v, k));
+        return channels::ask_channel(s, a + k, bitfield::pair(v, k));
     }
     tried(s, a, v)
 }

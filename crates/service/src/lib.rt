@@ -9,14 +9,12 @@ ghost use Rattle.unit.specs.OneTick.{initialise, stepRequest, requestServed, ma
 ghost use Rattle.pack.specs.Packing.{stateWords, stateIn, Holds};
 use motor::Phase;
 use words::Timer;
-use words::clock;
-use words::field;
 
 // The kind of a channel that is initialised with this CHANNEL_CONTROL: bits 8 to 5 are 0111, by TCR2, or else by TCR1.
 fn kind_in(control: u16) -> Timer
     ensures { λ r. ⌜ r ≡ kindIn control ⌝ }
 {
-    if field::timing(control) == 7 {
+    if bitfield::timing(control) == 7 {
         Timer::Tcr2
     } else {
         Timer::Tcr1
@@ -29,7 +27,7 @@ fn initialise(s: &mut [u16], c: u16)
 {
     let control = cells::word(s, c, 0);
     let pattern = cells::word(s, c, 1);
-    stores::put_pin(s, c, field::pair(control, 0) == 1);
+    stores::put_pin(s, c, bitfield::pair(control, 0) == 1);
     stores::put_word(s, c, 0, pattern);
     stores::set_up(s, c, kind_in(control));
     stepping::put_status(s, c);

@@ -9,7 +9,6 @@ ghost use Rattle.pack.specs.Packing.{stateWords, stateIn};
 ghost use Rattle.signals.specs.Signals.{positionOf, binary, vector, wireValue, vectorValue, pinValues, positionValues, values};
 use pack::layout;
 use unit::State;
-use words::field;
 
 // The values of a state: all of them, or those that differ from the old ones.
 pub fn values(out: &mut [u8], at: usize, all: bool, old: State, s: State) -> usize
@@ -48,8 +47,8 @@ fn pins(out: &mut [u8], at: usize, all: bool, old: u16, w: u16) -> usize
             out,
             next,
             all,
-            level(field::bit(old, c)),
-            level(field::bit(w, c)),
+            level(bitfield::bit(old, c)),
+            level(bitfield::bit(w, c)),
             b'a' + c as u8,
         );
     }
@@ -112,7 +111,7 @@ fn binary(out: &mut [u8], at: usize, w: u16) -> usize
 {
     let mut next = at;
     for k in 0..16 {
-        next = printing::decimal(out, next, level(field::bit(w, 15 - k)) as u64);
+        next = printing::decimal(out, next, level(bitfield::bit(w, 15 - k)) as u64);
     }
     next
 }

@@ -4,7 +4,6 @@ ghost use Rattle.words.specs.Field.{bitOf};
 ghost use Rattle.slots.specs.Claims.{OneService};
 ghost use Rattle.slots.specs.Rows.{SlotRows};
 ghost use Rattle.slots.specs.Slots.{ticked, idled, slotLevel, ofLevel, served, found, askedIn, nextIn, highest, chosen};
-use words::rotation;
 
 // Where the slots stand, and where each level's next search begins.
 pub struct Slots {

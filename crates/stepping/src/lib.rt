@@ -13,8 +13,6 @@ use motor::Motor;
 use motor::Outcome;
 use motor::Way;
 use unit::State;
-use words::clock;
-use words::field;
 
 pub fn motor_of(s: &[u16], c: u16) -> Motor
     requires { ⌜ (length (now s) ≡ stateWords) × (c < 16) ⌝ }
@@ -50,7 +48,7 @@ fn prepared(s: &mut [u16], j: u16, way: Way, m: u16)
     let x = pattern::turned_once(way, cells::word(s, j, 0));
     let w = pattern::reloaded(m, cells::word(s, j, 1), x);
     stores::put_word(s, j, 0, w);
-    stores::put_level(s, j, field::bit(x, 15));
+    stores::put_level(s, j, bitfield::bit(x, 15));
 }
 
 // The same in n channels from c on.
@@ -105,7 +103,7 @@ pub fn put_status(s: &mut [u16], c: u16)
     requires { ⌜ (length (now s) ≡ stateWords) × (c < 16) ⌝ }
     ensures { λ _. ⌜ Holds (now (s .exit)) (withStatus (stateIn (now (s .entry))) c) ⌝ }
 {
-    let w = field::with_bit(cells::reg(s, State::CISR), c, true);
+    let w = bitfield::with_bit(cells::reg(s, State::CISR), c, true);
     stores::put_reg(s, State::CISR, w);
 }
 

@@ -12,7 +12,6 @@ use pack::layout;
 use slots::Slots;
 use words::Timer;
 use words::Timers;
-use words::field;
 
 // Word i of channel c.
 pub fn put_word(s: &mut [u16], c: u16, i: u16, v: u16)
@@ -41,7 +40,7 @@ pub fn put_pin(s: &mut [u16], c: u16, on: bool)
     requires { ⌜ (length (now s) ≡ stateWords) × (c < 16) ⌝ }
     ensures { λ _. ⌜ Holds (now (s .exit)) (withPin (stateIn (now (s .entry))) c on) ⌝ }
 {
-    s[layout::PINS] = field::with_bit(s[layout::PINS], c, on);
+    s[layout::PINS] = bitfield::with_bit(s[layout::PINS], c, on);
 }
 
 pub fn put_slots(s: &mut [u16], t: Slots)
@@ -67,7 +66,7 @@ pub fn put_level(s: &mut [u16], c: u16, on: bool)
     ensures { λ _. ⌜ Holds (now (s .exit)) (withLevel (stateIn (now (s .entry))) c on) ⌝ }
 {
     let at = layout::FLAGS + c as usize;
-    s[at] = field::with_bit(s[at], 1, on);
+    s[at] = bitfield::with_bit(s[at], 1, on);
 }
 
 pub fn uninitialise(s: &mut [u16], c: u16)
@@ -75,7 +74,7 @@ pub fn uninitialise(s: &mut [u16], c: u16)
     ensures { λ _. ⌜ Holds (now (s .exit)) (withInitialised (stateIn (now (s .entry))) c false) ⌝ }
 {
     let at = layout::FLAGS + c as usize;
-    s[at] = field::with_bit(s[at], 0, false);
+    s[at] = bitfield::with_bit(s[at], 0, false);
 }
 
 fn timer_number(t: Timer) -> u16
@@ -93,7 +92,7 @@ pub fn set_up(s: &mut [u16], c: u16, kind: Timer)
     ensures { λ _. ⌜ Holds (now (s .exit)) (withSetUp (stateIn (now (s .entry))) c kind) ⌝ }
 {
     let at = layout::FLAGS + c as usize;
-    s[at] = field::put_in(field::with_bit(s[at], 0, true), 1, 5, timer_number(kind));
+    s[at] = bitfield::put_in(bitfield::with_bit(s[at], 0, true), 1, 5, timer_number(kind));
 }
 
 // A request binds the group of c, by the timer of that channel's kind.
@@ -103,7 +102,7 @@ pub fn bind(s: &mut [u16], c: u16)
 {
     let at = layout::FLAGS + c as usize;
     let f = s[at];
-    s[at] = field::put_in(field::with_bit(f, 6, field::bit(f, 5)), 2, 3, 1);
+    s[at] = bitfield::put_in(bitfield::with_bit(f, 6, bitfield::bit(f, 5)), 2, 3, 1);
 }
 
 // At rest; the direction stays.
@@ -112,7 +111,7 @@ pub fn rest(s: &mut [u16], c: u16)
     ensures { λ _. ⌜ Holds (now (s .exit)) (withPhase (stateIn (now (s .entry))) c ((channel (stateIn (now (s .entry))) c) .way) Resting) ⌝ }
 {
     let at = layout::FLAGS + c as usize;
-    s[at] = field::put_in(s[at], 2, 3, 0);
+    s[at] = bitfield::put_in(s[at], 2, 3, 0);
 }
 
 fn way_number(w: Way) -> u16
@@ -128,7 +127,7 @@ fn way_number(w: Way) -> u16
 fn standing(flags: u16, way: Way, number: u16) -> u16
     ensures { λ r. ⌜ r ≡ withField 2 (withField 1 flags 2 (wayNumber way)) 3 number ⌝ }
 {
-    field::put_in(field::put_in(flags, 1, 2, way_number(way)), 2, 3, number)
+    bitfield::put_in(bitfield::put_in(flags, 1, 2, way_number(way)), 2, 3, number)
 }
 
 // A match is set for a time.

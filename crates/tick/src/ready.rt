@@ -7,7 +7,6 @@ ghost use Rattle.pack.specs.Packing.{stateWords, stateIn};
 ghost use Rattle.tick.specs.Ready.{pends, pendingBelow, noted, asked, readyBelow};
 use channel::pending;
 use slots::Ready;
-use words::field;
 
 // Most channels have nothing to be served, so this is asked first.
 fn pends(s: &[u16], c: u16) -> bool
@@ -25,14 +24,14 @@ fn noted(mut w: Ready, c: u16, level: u16) -> Ready
     ensures { λ r. ⌜ r ≡ noted w c level ⌝ }
 {
     if level == 3 {
-        w.high = field::with_bit(w.high, c, true);
+        w.high = bitfield::with_bit(w.high, c, true);
         return w;
     }
     if level == 2 {
-        w.middle = field::with_bit(w.middle, c, true);
+        w.middle = bitfield::with_bit(w.middle, c, true);
         return w;
     }
-    w.low = field::with_bit(w.low, c, true);
+    w.low = bitfield::with_bit(w.low, c, true);
     w
 }
 
@@ -54,7 +53,7 @@ fn marked(s: &[u16], c: u16, w: u16) -> u16
     ensures { λ r. ⌜ r ≡ pendingBelow (c + 1) (stateIn (now (s .entry))) ⌝ }
 {
     if pends(s, c) {
-        return field::with_bit(w, c, true);
+        return bitfield::with_bit(w, c, true);
     }
     w
 }

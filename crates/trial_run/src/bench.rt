@@ -2,7 +2,6 @@
 use unit::Answered;
 use unit::Reading;
 use unit::State;
-use words::field;
 
 pub const CIER: u16 = 0xE0A;
 
@@ -71,7 +70,7 @@ impl Setting {
 
     // Word 5 of the primary.
     fn group(self) -> u16 {
-        field::with_nibble(field::with_nibble(0, 2, self.top), 0, self.last)
+        bitfield::with_nibble(bitfield::with_nibble(0, 2, self.top), 0, self.last)
     }
 }
 

@@ -7,8 +7,6 @@ mod show;
 use bench::Setting;
 use run::Run;
 use unit::State;
-use words::clock;
-use words::field;
 
 fn main() {
     listing();
@@ -108,7 +106,7 @@ fn reached(r: Run) {
     show::named(b" tick", r.tick);
     show::named(b" at", run::position(r));
     let rates = bench::look(r.state, bench::RATE);
-    show::named(b" rate", field::nibble(rates, 0));
+    show::named(b" rate", bitfield::nibble(rates, 0));
 }
 
 // The motor rests until TCR1 is near $FFFF.
@@ -128,7 +126,7 @@ fn turned(from: u16, to: u16) {
 
 // MOD_CNT and bit 15 of CHANNEL_CONTROL, then on to the next step.
 fn level(r: Run) -> Run {
-    let count = field::nibble(bench::look(r.state, bench::RATE), 2);
+    let count = bitfield::nibble(bench::look(r.state, bench::RATE), 2);
     let control = bench::look(r.state, bench::CHANNEL_CONTROL);
     show::pair(count, control >> 15);
     run::onward(r)

@@ -4,8 +4,6 @@ use crate::bench::Setting;
 use crate::show;
 use unit::Answer;
 use unit::State;
-use words::clock;
-use words::field;
 
 pub struct Run {
     pub state: State,
@@ -23,7 +21,7 @@ pub fn position(r: Run) -> u16 {
 }
 
 fn status(s: State) -> bool {
-    field::bit(bench::look(s, bench::CISR), 4)
+    bitfield::bit(bench::look(s, bench::CISR), 4)
 }
 
 // The group is free: a write of the position would be taken.
