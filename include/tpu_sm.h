@@ -1,21 +1,14 @@
 /*
- * The Stepper Motor timer unit, for C and C++. Link target/staticlib/libtpu_c.a, or install both with tools/install.
+ * The Stepper Motor timer unit, for C and C++. Link target/staticlib/libtpu_c.a.
  *
  * The unit keeps nothing between calls. Its state is TPU_SM_STATE_WORDS words that the caller owns and lends to each
  * call; reset makes them all 0. Copy them to keep a state, lend the copy to go on from it. Every content of the words is
  * answered, but only what the calls leave there is a state of the unit's history. Bits and times that mean nothing at the
  * moment stay as they are, so two states that behave alike may differ in words.
  *
- * A list is lent as a pointer and a count, of words or, for a store, of bytes. The pointer is valid for that many, and not
- * null even where they are 0; the two lists of one call do not overlap. A list is lent until the call returns, and no call
- * keeps a pointer to it. All else is checked by the call: a state of another count than TPU_SM_STATE_WORDS is answered
- * TPU_SM_WRONG_LENGTH, before anything else is asked, and any call that is not taken changes no word and no byte.
- *
- * Two calls on the same words must not overlap. Where an interrupt makes the ticks, mask it around every other call on
- * these words, reads as well: examples/c/board.c does so. Calls on different words may overlap, on two cores too.
- *
- * At its start a program compares what it was compiled with and what it was linked to:
- *     tpu_sm_version() == TPU_SM_VERSION && tpu_sm_state_words() == TPU_SM_STATE_WORDS
+ * A list is lent as a pointer and a count of words. The pointer is valid for that many words, and not null even where
+ * they are 0; the two lists of one call do not overlap. All else is checked by the call: a count other than
+ * TPU_SM_STATE_WORDS is answered TPU_SM_WRONG_LENGTH, and any call that is not taken changes no word.
  */
 #ifndef TPU_SM_H
 #define TPU_SM_H
@@ -27,14 +20,10 @@
 extern "C" {
 #endif
 
-/* 1.8.0: ten thousand times the first number, a hundred times the second, and the third. */
-#define TPU_SM_VERSION 10800
-
 /* How many words hold a state. */
 #define TPU_SM_STATE_WORDS 211
 
-/* The same two numbers, as the archive has them. */
-uint32_t tpu_sm_version(void);
+/* The same number, as the archive has it. */
 uint32_t tpu_sm_state_words(void);
 
 /* The words hold the state after reset. */
@@ -56,49 +45,12 @@ uint16_t tpu_sm_interrupt_line(const uint16_t *state, size_t state_words);
 #define TPU_SM_ANSWER(result) ((uint16_t)((uint32_t)(result) >> 16))
 #define TPU_SM_WORD(result) ((uint16_t)((uint32_t)(result) & 0xFFFFu))
 
-/* ---- settings kept by version, in a store of 2 to 128 blocks that the caller owns
-
-   A block holds one version: the parameter words, CFSR and CPR, with a sum over all of it. A block whose sum is right is
-   sound. Bytes of any content are answered; erased ones, all 0xFF or all 0, hold no sound block. */
-
-#define TPU_SM_BLOCK_BYTES 512
-#define TPU_SM_MIN_BLOCKS 2
-#define TPU_SM_MAX_BLOCKS 128
-
-/* The settings become the next version, in the first block that is not sound, or over the oldest. Motors may run. To mask
-   the interrupt for a moment only, copy the words and lend the copy. */
-uint64_t tpu_sm_save(const uint16_t *state, size_t state_words, uint8_t *store, size_t store_bytes);
-
-/* The newest sound version, or this one, is played in by ordinary writes. Refused with TPU_SM_BUSY while any channel is
-   bound or has a request. Every channel is uninitialised then: write CHANNEL_CONTROL and initialise it again. */
-uint64_t tpu_sm_load(uint16_t *state, size_t state_words, const uint8_t *store, size_t store_bytes);
-uint64_t tpu_sm_load_version(
-    uint16_t *state, size_t state_words, uint32_t version, const uint8_t *store, size_t store_bytes);
-
-/* What these return: the answer, and the version saved or loaded, which is 0 where the call is not taken. */
-#define TPU_SM_KEPT_ANSWER(result) ((uint16_t)((uint64_t)(result) >> 32))
-#define TPU_SM_KEPT_VERSION(result) ((uint32_t)((uint64_t)(result)&0xFFFFFFFFu))
-
-/* ---- ramps from the motor maker's sheet, for a motor of n rates
-
-   Periods are in milliseconds, the slowest and the difference between neighbours; speeds are in steps a second. The tick
-   is the length of a count of the motor's timer in milliseconds: for TCR2 that is eight ticks. */
-
-uint64_t tpu_sm_ramp_periods(double slowest, double difference, double tick, uint32_t n);
-uint64_t tpu_sm_ramp_speeds(double slowest, double fastest, double tick, uint32_t n);
-
-/* What these return: the answer, STEP_CNTL0 and STEP_CNTL1, both 0 where the ramp is refused. A ramp that is taken may
-   still be too quick for a step request, which then gets TPU_SM_TOO_QUICK. */
-#define TPU_SM_RAMP_ANSWER(result) ((uint16_t)((uint64_t)(result) >> 32))
-#define TPU_SM_RAMP_CNTL0(result) ((uint16_t)((uint64_t)(result) >> 16 & 0xFFFFu))
-#define TPU_SM_RAMP_CNTL1(result) ((uint16_t)((uint64_t)(result)&0xFFFFu))
-
 /* ---- answers */
 
 #define TPU_SM_TAKEN 0
 /* the address is odd, or no register and no parameter word is there, or the write is to a TPU_SM_LATE */
 #define TPU_SM_NO_SUCH_ADDRESS 1
-/* the channel is bound to a motor that runs, or has a request that is not served yet; for a load, any channel */
+/* the channel is bound to a motor that runs, or has a request that is not served yet */
 #define TPU_SM_BUSY 2
 /* the channel of a request has another function than 13 */
 #define TPU_SM_NOT_A_STEPPER 3
@@ -117,14 +69,6 @@ uint64_t tpu_sm_ramp_speeds(double slowest, double fastest, double tick, uint32_
 #define TPU_SM_TARGET_TOO_FAR 9
 /* more than TPU_SM_MAX_TICKS ticks, or more than the list has words */
 #define TPU_SM_ADVANCE_TOO_LONG 10
-/* n is not 1 to 14, a number of the sheet is not finite and above 0 (a difference may be 0), the fastest speed is below the
-   slowest, a period is not 1 to 0x7FFF counts, or the words do not fit */
-#define TPU_SM_BAD_SHEET 11
-/* the store is not TPU_SM_MIN_BLOCKS to TPU_SM_MAX_BLOCKS whole blocks; a load finds no sound block, or none of that
-   version; or version 0xFFFFFFFF is there and a save would need the next */
-#define TPU_SM_BAD_STORE 12
-/* the block that a load takes has another layout than this unit knows */
-#define TPU_SM_UNKNOWN_LAYOUT 13
 /* the step at rate N would take less than 128 counts of the group's timer: asked after TPU_SM_BAD_RAMP */
 #define TPU_SM_TOO_QUICK 14
 /* the state was not lent as TPU_SM_STATE_WORDS words */

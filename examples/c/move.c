@@ -75,10 +75,6 @@ int main(void)
 {
     unsigned tick = 0;
 
-    if (tpu_sm_version() != TPU_SM_VERSION || tpu_sm_state_words() != TPU_SM_STATE_WORDS) {
-        puts("header and archive are of different versions");
-        return 1;
-    }
     tpu_sm_reset(state, TPU_SM_STATE_WORDS);
     puts("initialise channels 4 and 5");
     set_up();

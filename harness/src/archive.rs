@@ -1,12 +1,10 @@
 //! The proved unit, out of the archive that `rt staticlib tpu_c` makes. All
-//! unsafe code of the harness is here and in `steps`.
+//! unsafe code of the harness is here.
 
 use crate::packed::{unpack, WORDS};
-use crate::ramp::Ramp;
-use crate::settings::Which;
 use crate::unit::{Snapshot, Unit};
 
-pub(crate) mod raw {
+mod raw {
     extern "C" {
         pub fn tpu_sm_state_words() -> u32;
         pub fn tpu_sm_reset(state: *mut u16, len: usize) -> u16;
@@ -20,18 +18,6 @@ pub(crate) mod raw {
             pins_len: usize,
         ) -> u16;
         pub fn tpu_sm_interrupt_line(state: *const u16, len: usize) -> u16;
-        pub fn tpu_sm_version() -> u32;
-        pub fn tpu_sm_save(state: *const u16, len: usize, store: *mut u8, store_len: usize) -> u64;
-        pub fn tpu_sm_load(state: *mut u16, len: usize, store: *const u8, store_len: usize) -> u64;
-        pub fn tpu_sm_load_version(
-            state: *mut u16,
-            len: usize,
-            version: u32,
-            store: *const u8,
-            store_len: usize,
-        ) -> u64;
-        pub fn tpu_sm_ramp_periods(slowest: f64, difference: f64, tick: f64, n: u32) -> u64;
-        pub fn tpu_sm_ramp_speeds(slowest: f64, fastest: f64, tick: f64, n: u32) -> u64;
     }
 }
 
@@ -39,8 +25,8 @@ pub(crate) mod raw {
 pub const WRONG_LENGTH: u16 = 100;
 
 // One safe function for each call. SAFETY of all: the archive touches no more
-// than what it is lent, and pointer and count are those of a slice that is
-// borrowed for the whole call.
+// than the words that it is lent, and pointer and count are those of a slice
+// that is borrowed for the whole call.
 
 pub fn state_words() -> u32 {
     unsafe { raw::tpu_sm_state_words() }
@@ -75,40 +61,6 @@ pub fn interrupt_line(state: &[u16]) -> u16 {
     unsafe { raw::tpu_sm_interrupt_line(state.as_ptr(), state.len()) }
 }
 
-pub fn version() -> u32 {
-    unsafe { raw::tpu_sm_version() }
-}
-
-/// The answer in the upper half, the version in the lower.
-pub fn save(state: &[u16], store: &mut [u8]) -> u64 {
-    let (len, store_len) = (state.len(), store.len());
-    unsafe { raw::tpu_sm_save(state.as_ptr(), len, store.as_mut_ptr(), store_len) }
-}
-
-/// The answer in the upper half, the version in the lower.
-pub fn load(state: &mut [u16], which: Which, store: &[u8]) -> u64 {
-    let (words, len) = (state.as_mut_ptr(), state.len());
-    let (bytes, store_len) = (store.as_ptr(), store.len());
-    match which {
-        Which::Newest => unsafe { raw::tpu_sm_load(words, len, bytes, store_len) },
-        Which::Version(version) => unsafe {
-            raw::tpu_sm_load_version(words, len, version, bytes, store_len)
-        },
-    }
-}
-
-/// The answer in the upper half, STEP_CNTL0 and STEP_CNTL1 in the lower.
-pub fn ramp(ramp: Ramp, tick: f64, n: u32) -> u64 {
-    match ramp {
-        Ramp::Periods(slowest, difference) => unsafe {
-            raw::tpu_sm_ramp_periods(slowest, difference, tick, n)
-        },
-        Ramp::Speeds(slowest, fastest) => unsafe {
-            raw::tpu_sm_ramp_speeds(slowest, fastest, tick, n)
-        },
-    }
-}
-
 const GUARD: usize = 16;
 const GUARD_WORD: u16 = 0xA55A;
 
@@ -133,29 +85,13 @@ impl Archive {
     }
 
     pub fn state(&self) -> &[u16; WORDS] {
-        let words = &self.words[GUARD..GUARD + WORDS];
-        words.try_into().expect("all words of a state")
+        self.words[GUARD..]
+            .first_chunk()
+            .expect("all words of a state")
     }
 
     fn state_mut(&mut self) -> &mut [u16] {
         &mut self.words[GUARD..GUARD + WORDS]
-    }
-
-    pub fn save(&self, store: &mut [u8]) -> Result<u32, u8> {
-        kept(save(self.state(), store))
-    }
-
-    pub fn load(&mut self, which: Which, store: &[u8]) -> Result<u32, u8> {
-        kept(load(self.state_mut(), which, store))
-    }
-}
-
-/// A version, or the number of a refusal, which comes with version 0.
-fn kept(answer: u64) -> Result<u32, u8> {
-    match (answer >> 32, answer as u32) {
-        (0, version) => Ok(version),
-        (number, 0) if number < 100 => Err(number as u8),
-        _ => panic!("no answer of the store: {answer:X}"),
     }
 }
 

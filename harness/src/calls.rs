@@ -7,7 +7,7 @@ use crate::unit::{Phase, Snapshot, Unit};
 use std::collections::VecDeque;
 
 /// One call. An advance has its ticks and the length of the lent list.
-#[derive(Clone, Copy, Debug, PartialEq, Eq, Hash)]
+#[derive(Clone, Copy, Debug, PartialEq, Eq)]
 pub enum Call {
     Read(u16),
     Write(u16, u16),
@@ -98,14 +98,14 @@ const PATTERNS: [u16; 18] = [
 const BY_ITSELF: [u16; 2] = [0x8081, 0x0082];
 
 const OFF: u16 = 0;
-pub(crate) const INITIALISE: u16 = 2;
-pub(crate) const STEP: u16 = 3;
+const INITIALISE: u16 = 2;
+const STEP: u16 = 3;
 
-pub(crate) fn word_address(c: usize, w: usize) -> u16 {
+fn word_address(c: usize, w: usize) -> u16 {
     PARAMETERS + 16 * c as u16 + 2 * w as u16
 }
 
-pub(crate) fn function_address(c: usize) -> u16 {
+fn function_address(c: usize) -> u16 {
     CFSR0 + 2 * (3 - c as u16 / 4)
 }
 
@@ -114,12 +114,12 @@ fn late_address(c: usize) -> u16 {
 }
 
 /// The word of a channel in HSRR or CPR.
-pub(crate) fn half_address(first: u16, c: usize) -> u16 {
+fn half_address(first: u16, c: usize) -> u16 {
     first + 2 * (1 - c as u16 / 8)
 }
 
 /// A two-bit field at its place in HSRR or CPR.
-pub(crate) fn in_half(c: usize, field: u16) -> u16 {
+fn in_half(c: usize, field: u16) -> u16 {
     field << (2 * (c % 8))
 }
 

@@ -16,25 +16,25 @@ pub enum Ramp {
 /// The longest period, and the largest difference, in counts.
 const LONGEST: i64 = 0x7FFF;
 
-/// STEP_CNTL0 and STEP_CNTL1, or for a ramp that is refused the word for
-/// what is wrong with it: the first, in the order of the work.
-pub fn from_sheet(ramp: Ramp, tick: f64, n: u8) -> Result<(u16, u16), &'static str> {
-    need((1..=14).contains(&n), "rates")?;
-    need(is_size(tick), "tick")?;
+/// STEP_CNTL0 and STEP_CNTL1, or nothing for a ramp that is refused.
+pub fn from_sheet(ramp: Ramp, tick: f64, n: u8) -> Option<(u16, u16)> {
+    if !(1..=14).contains(&n) || !is_size(tick) {
+        return None;
+    }
     let gaps = i64::from(n) - 1;
     let (first, difference) = match ramp {
         Ramp::Periods(slowest, difference) => {
-            need(is_size(slowest), "slowest")?;
-            need(is_size(difference) || difference == 0.0, "difference")?;
-            let first = period(slowest, tick).ok_or("first")?;
-            (first, step(difference, tick).ok_or("step")?)
+            if !is_size(slowest) || !(is_size(difference) || difference == 0.0) {
+                return None;
+            }
+            (period(slowest, tick)?, nearest(difference / tick)?)
         }
         Ramp::Speeds(slowest, fastest) => {
-            need(is_size(slowest), "slowest")?;
-            need(is_size(fastest), "fastest")?;
-            need(fastest >= slowest, "order")?;
-            let first = period(1000.0 / slowest, tick).ok_or("first")?;
-            let last = period(1000.0 / fastest, tick).ok_or("last")?;
+            if !is_size(slowest) || !is_size(fastest) || fastest < slowest {
+                return None;
+            }
+            let first = period(1000.0 / slowest, tick)?;
+            let last = period(1000.0 / fastest, tick)?;
             match gaps {
                 0 => (first, 0),
                 _ => (first, (2 * (first - last) + gaps) / (2 * gaps)),
@@ -42,17 +42,11 @@ pub fn from_sheet(ramp: Ramp, tick: f64, n: u8) -> Result<(u16, u16), &'static s
         }
     };
     let start = first + 2 * difference;
-    need(start <= 0xFFFF, "word")?;
-    need(first - gaps * difference >= 1, "steep")?;
-    Ok((difference as u16, start as u16))
-}
-
-fn need(holds: bool, word: &'static str) -> Result<(), &'static str> {
-    if holds {
-        Ok(())
-    } else {
-        Err(word)
+    let last = first - gaps * difference;
+    if difference > LONGEST || start > 0xFFFF || last < 1 {
+        return None;
     }
+    Some((difference as u16, start as u16))
 }
 
 /// Finite and above zero.
@@ -63,11 +57,6 @@ fn is_size(number: f64) -> bool {
 /// A period in counts, if the unit has room for it.
 fn period(milliseconds: f64, tick: f64) -> Option<i64> {
     nearest(milliseconds / tick).filter(|count| (1..=LONGEST).contains(count))
-}
-
-/// A difference in counts, if the unit has room for it.
-fn step(milliseconds: f64, tick: f64) -> Option<i64> {
-    nearest(milliseconds / tick).filter(|&count| count <= LONGEST)
 }
 
 /// The whole number nearest to a quotient that is not negative, halves upward.
@@ -92,9 +81,8 @@ pub fn answer(line: &[u8]) -> String {
     let Some((ramp, tick, n)) = parse(line) else {
         return "E".to_string();
     };
-    let (difference, start) = match from_sheet(ramp, tick, n) {
-        Ok(words) => words,
-        Err(word) => return format!("N 11 {word}"),
+    let Some((difference, start)) = from_sheet(ramp, tick, n) else {
+        return "N 11".to_string();
     };
     let letter = line[0] as char;
     let mut text = format!("{letter} {difference:04X} {start:04X}");

@@ -17,6 +17,13 @@ pub fn line(call: Call) -> Option<String> {
     }
 }
 
+/// One line that means something.
+enum Line {
+    Write(u16, u16),
+    Read(u16),
+    Ticks(u32),
+}
+
 /// A unit with what the program remembers between lines.
 pub struct Script<U> {
     unit: U,
@@ -50,17 +57,17 @@ impl<U: Unit> Script<U> {
     }
 
     fn answer(&mut self, line: &[u8], out: &mut impl Write) -> io::Result<()> {
-        let refused = match call(line) {
+        let refused = match parse(line) {
             None => return writeln!(out, "E"),
-            Some(Call::Write(address, value)) => match self.unit.write(address, value) {
+            Some(Line::Write(address, value)) => match self.unit.write(address, value) {
                 Ok(()) => return writeln!(out, "W"),
                 Err(number) => number,
             },
-            Some(Call::Read(address)) => match self.unit.read(address) {
+            Some(Line::Read(address)) => match self.unit.read(address) {
                 Ok(word) => return writeln!(out, "R {word:04X}"),
                 Err(number) => number,
             },
-            Some(Call::Advance(n, _)) => match self.unit.advance(n, &mut self.list) {
+            Some(Line::Ticks(n)) => match self.unit.advance(n, &mut self.list) {
                 Ok(()) => return self.report_ticks(n, out),
                 Err(number) => number,
             },
@@ -80,19 +87,15 @@ impl<U: Unit> Script<U> {
     }
 }
 
-/// The call that a line asks for, if it means something.
-pub fn call(line: &[u8]) -> Option<Call> {
+fn parse(line: &[u8]) -> Option<Line> {
     let rest = line.get(2..)?;
     match &line[..2] {
-        b"W " if rest.len() == 8 && rest[3] == b' ' => Some(Call::Write(
+        b"W " if rest.len() == 8 && rest[3] == b' ' => Some(Line::Write(
             hexadecimal(&rest[..3])?,
             hexadecimal(&rest[4..])?,
         )),
-        b"R " if rest.len() == 3 => Some(Call::Read(hexadecimal(rest)?)),
-        b"T " if (1..=4).contains(&rest.len()) => {
-            let n = decimal(rest)?;
-            Some(Call::Advance(n, n as usize))
-        }
+        b"R " if rest.len() == 3 => Some(Line::Read(hexadecimal(rest)?)),
+        b"T " if (1..=4).contains(&rest.len()) => Some(Line::Ticks(decimal(rest)?)),
         _ => None,
     }
 }

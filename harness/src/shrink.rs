@@ -8,12 +8,7 @@ pub fn shortest(calls: &[Call], mut shows: impl FnMut(&[Call]) -> bool) -> Vec<C
     // What shows it goes on showing it with more calls behind.
     let lengths: Vec<usize> = (0..calls.len()).collect();
     let needed = lengths.partition_point(|&length| !shows(&calls[..length]));
-    simplest(&calls[..needed], shows)
-}
-
-/// The same, where the end of the list matters as much as the rest.
-pub fn simplest(calls: &[Call], mut shows: impl FnMut(&[Call]) -> bool) -> Vec<Call> {
-    let mut list = calls.to_vec();
+    let mut list = calls[..needed].to_vec();
     loop {
         let before = list.clone();
         drop_calls(&mut list, &mut shows);

@@ -160,7 +160,7 @@ impl Seen {
     /// The same pins, and the same words where both show them.
     fn agrees(self, other: Seen) -> bool {
         let words = self.words.zip(other.words);
-        self.pins == other.pins && words.map_or(true, |(a, b)| a == b)
+        self.pins == other.pins && words.is_none_or(|(a, b)| a == b)
     }
 }
 

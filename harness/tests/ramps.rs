@@ -2,28 +2,24 @@
 
 use harness::ramp::{answer, from_sheet, random_line, run, Ramp, Ramp::*};
 use harness::random::Random;
-use std::collections::BTreeMap;
 use std::fs;
 use std::path::Path;
 
 const LINES: usize = 100_000;
 
-/// Each refusal that a line can get. No line has a difference below zero, so `difference` is not among them.
-#[rustfmt::skip]
-const REFUSALS: [&str; 10] = [
-    "N 11 rates", "N 11 tick", "N 11 slowest", "N 11 fastest", "N 11 order", "N 11 first", "N 11 last",
-    "N 11 step", "N 11 word", "N 11 steep",
-];
-
 /// The next float below 0.5.
 const BELOW_HALF: f64 = 0.499_999_999_999_999_94;
 
-fn refused(ramp: Ramp, tick: f64, n: u8, word: &str) {
-    assert_eq!(from_sheet(ramp, tick, n), Err(word), "{ramp:?} {tick} {n}");
+fn refused(ramp: Ramp, tick: f64, n: u8) {
+    assert_eq!(from_sheet(ramp, tick, n), None, "{ramp:?} {tick} {n}");
 }
 
 fn taken(ramp: Ramp, tick: f64, n: u8, words: (u16, u16)) {
-    assert_eq!(from_sheet(ramp, tick, n), Ok(words), "{ramp:?} {tick} {n}");
+    assert_eq!(
+        from_sheet(ramp, tick, n),
+        Some(words),
+        "{ramp:?} {tick} {n}"
+    );
 }
 
 #[test]
@@ -43,10 +39,7 @@ fn examples() {
 #[test]
 fn n_is_from_1_to_14() {
     for n in 0..=255 {
-        let words = match n {
-            1..=14 => Ok((0, 400)),
-            _ => Err("rates"),
-        };
+        let words = (1..=14).contains(&n).then_some((0, 400));
         assert_eq!(from_sheet(Periods(4.0, 0.0), 0.01, n), words);
         assert_eq!(from_sheet(Speeds(250.0, 250.0), 0.01, n), words);
     }
@@ -56,19 +49,19 @@ fn n_is_from_1_to_14() {
 fn numbers_are_finite_and_above_zero() {
     let smallest = f64::from_bits(1);
     for bad in [f64::NAN, f64::INFINITY, -f64::INFINITY, -4.0, 0.0, -0.0] {
-        refused(Periods(bad, 0.2), 0.01, 10, "slowest");
-        refused(Periods(4.0, 0.2), bad, 10, "tick");
-        refused(Periods(4.0, 0.0), bad, 1, "tick");
-        refused(Speeds(bad, 42.9), 0.01, 14, "slowest");
-        refused(Speeds(30.0, bad), 0.01, 14, "fastest");
-        refused(Speeds(30.0, bad), 0.01, 1, "fastest");
-        refused(Speeds(bad, bad), 0.01, 1, "slowest");
-        refused(Speeds(30.0, 42.9), bad, 14, "tick");
+        refused(Periods(bad, 0.2), 0.01, 10);
+        refused(Periods(4.0, 0.2), bad, 10);
+        refused(Periods(4.0, 0.0), bad, 1);
+        refused(Speeds(bad, 42.9), 0.01, 14);
+        refused(Speeds(30.0, bad), 0.01, 14);
+        refused(Speeds(30.0, bad), 0.01, 1);
+        refused(Speeds(bad, bad), 0.01, 1);
+        refused(Speeds(30.0, 42.9), bad, 14);
         if bad != 0.0 {
-            refused(Periods(4.0, bad), 0.01, 1, "difference");
+            refused(Periods(4.0, bad), 0.01, 1);
         }
     }
-    refused(Periods(4.0, -smallest), 0.01, 1, "difference");
+    refused(Periods(4.0, -smallest), 0.01, 1);
     taken(Periods(4.0, smallest), 0.01, 1, (0, 400));
     taken(Periods(4.0, 0.0), 0.01, 14, (0, 400));
     taken(Periods(4.0, -0.0), 0.01, 14, (0, 400));
@@ -78,50 +71,50 @@ fn numbers_are_finite_and_above_zero() {
 #[test]
 fn top_speed_is_not_below_the_slowest() {
     taken(Speeds(250.0, 250.0), 0.01, 14, (0, 400));
-    refused(Speeds(250.0, 249.999_999_999_999_97), 0.01, 14, "order");
-    refused(Speeds(250.0, 249.999_999_999_999_97), 0.01, 1, "order");
+    refused(Speeds(250.0, 249.999_999_999_999_97), 0.01, 14);
+    refused(Speeds(250.0, 249.999_999_999_999_97), 0.01, 1);
 }
 
 #[test]
 fn periods_fit() {
     taken(Periods(0.5, 0.0), 1.0, 14, (0, 1));
-    refused(Periods(BELOW_HALF, 0.0), 1.0, 1, "first");
+    refused(Periods(BELOW_HALF, 0.0), 1.0, 1);
     taken(Periods(32767.0, 0.0), 1.0, 14, (0, 0x7FFF));
     taken(Periods(32_767.499_999_999_996, 0.0), 1.0, 1, (0, 0x7FFF));
-    refused(Periods(32767.5, 0.0), 1.0, 1, "first");
-    refused(Periods(1e300, 0.0), 1e-300, 1, "first");
-    refused(Periods(2f64.powi(64), 0.0), 1.0, 1, "first");
+    refused(Periods(32767.5, 0.0), 1.0, 1);
+    refused(Periods(1e300, 0.0), 1e-300, 1);
+    refused(Periods(2f64.powi(64), 0.0), 1.0, 1);
     // Both speeds count, even where only one matters for the words.
     taken(Speeds(250.0, 2000.0), 1.0, 1, (0, 4));
-    refused(Speeds(250.0, 2001.0), 1.0, 1, "last");
-    refused(Speeds(100.0, 2001.0), 1.0, 4, "last");
-    refused(Speeds(1000.0 / 32767.75, 1.0), 1.0, 1, "first");
+    refused(Speeds(250.0, 2001.0), 1.0, 1);
+    refused(Speeds(100.0, 2001.0), 1.0, 4);
+    refused(Speeds(1000.0 / 32767.75, 1.0), 1.0, 1);
     taken(Speeds(1000.0 / 32767.25, 1.0), 1.0, 1, (0, 0x7FFF));
-    refused(Speeds(1000.0 / 32769.0, 1000.0 / 32768.0), 1.0, 1, "first");
-    refused(Speeds(f64::from_bits(1), 250.0), 1.0, 1, "first");
-    refused(Speeds(250.0, f64::MAX), 1.0, 1, "last");
+    refused(Speeds(1000.0 / 32769.0, 1000.0 / 32768.0), 1.0, 1);
+    refused(Speeds(f64::from_bits(1), 250.0), 1.0, 1);
+    refused(Speeds(250.0, f64::MAX), 1.0, 1);
 }
 
 #[test]
 fn difference_and_start_fit() {
     taken(Periods(1.0, 32767.0), 1.0, 1, (0x7FFF, 0xFFFF));
-    refused(Periods(1.0, 32768.0), 1.0, 1, "step");
-    refused(Periods(4.0, 1e308), 0.01, 1, "step");
-    refused(Periods(2.0, 32767.0), 1.0, 1, "word");
+    refused(Periods(1.0, 32768.0), 1.0, 1);
+    refused(Periods(1.0, 1e300), 1e-300, 1);
+    refused(Periods(2.0, 32767.0), 1.0, 1);
     taken(Periods(32767.0, 16384.0), 1.0, 1, (0x4000, 0xFFFF));
-    refused(Periods(32767.0, 16385.0), 1.0, 1, "word");
+    refused(Periods(32767.0, 16385.0), 1.0, 1);
     taken(Periods(29999.0, 17768.0), 1.0, 2, (17768, 0xFFFF));
-    refused(Periods(30000.0, 17768.0), 1.0, 2, "word");
-    refused(Speeds(1000.0 / 30000.0, 0.1), 1.0, 2, "word");
+    refused(Periods(30000.0, 17768.0), 1.0, 2);
+    refused(Speeds(1000.0 / 30000.0, 0.1), 1.0, 2);
 }
 
 #[test]
 fn last_period_is_at_least_1() {
     taken(Periods(41.0, 20.0), 1.0, 3, (20, 81));
-    refused(Periods(40.0, 20.0), 1.0, 3, "steep");
+    refused(Periods(40.0, 20.0), 1.0, 3);
     // Periods 5 and 2, then 4 and 1: the difference of 1.5 becomes 2.
     taken(Speeds(200.0, 500.0), 1.0, 3, (2, 9));
-    refused(Speeds(250.0, 1000.0), 1.0, 3, "steep");
+    refused(Speeds(250.0, 1000.0), 1.0, 3);
 }
 
 #[test]
@@ -139,7 +132,7 @@ fn lines_in_form() {
         assert!(answer(line.as_bytes()).ends_with(" 0000 0004 4 4 4 4 4"));
     }
     for line in ["P 4 0 1 15", "P 4 0 1 0", "S 250 250 0 99", "P 0 0 0 00"] {
-        assert_eq!(answer(line.as_bytes()), "N 11 rates", "{line}");
+        assert_eq!(answer(line.as_bytes()), "N 11", "{line}");
     }
     for line in ["", "P", "P 4 0 1", "P 4 0 1 ", "P 4 0 1 100", "P 4 0 1 5\r"] {
         assert_eq!(answer(line.as_bytes()), "E", "{line}");
@@ -150,38 +143,19 @@ fn lines_in_form() {
 }
 
 #[test]
-fn first_of_several_is_named() {
-    refused(Periods(0.0, -1.0), 0.0, 0, "rates");
-    refused(Periods(0.0, -1.0), 0.0, 1, "tick");
-    refused(Periods(0.0, -1.0), 0.01, 1, "slowest");
-    refused(Periods(0.004, -1.0), 0.01, 1, "difference");
-    refused(Periods(0.004, 327.68), 0.01, 1, "first");
-    refused(Periods(300.0, 327.68), 0.01, 14, "step");
-    refused(Periods(300.0, 300.0), 0.01, 14, "word");
-    refused(Speeds(0.0, 0.0), 0.01, 1, "slowest");
-    refused(Speeds(250_000.0, 0.0), 0.01, 1, "fastest");
-    refused(Speeds(250_000.0, 200_000.0), 0.01, 1, "order");
-    refused(Speeds(250_000.0, 300_000.0), 0.01, 1, "first");
-}
-
-#[test]
 fn random_lines_meet_every_answer() {
     let mut random = Random::new(1);
-    let mut counts = BTreeMap::new();
+    let (mut p, mut s, mut n, mut e) = (0, 0, 0, 0);
     for _ in 0..LINES {
-        let line = answer(&random_line(&mut random));
-        let kind = match line.as_bytes()[0] {
-            b'N' => line,
-            _ => line[..1].to_string(),
-        };
-        *counts.entry(kind).or_insert(0) += 1;
+        match answer(&random_line(&mut random)).as_bytes()[0] {
+            b'P' => p += 1,
+            b'S' => s += 1,
+            b'N' => n += 1,
+            _ => e += 1,
+        }
     }
-    println!("seed 1, {LINES} lines: {counts:?}");
-    let refusals: usize = REFUSALS.iter().map(|kind| counts[*kind]).sum();
-    assert!([counts["P"], counts["S"], counts["E"], refusals]
-        .iter()
-        .all(|&count| count > LINES / 20));
-    assert_eq!(counts.len(), 3 + REFUSALS.len());
+    println!("seed 1, {LINES} lines: {p} P, {s} S, {n} N 11, {e} E");
+    assert!([p, s, n, e].iter().all(|&count| count > LINES / 20));
 }
 
 #[test]

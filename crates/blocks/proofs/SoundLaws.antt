@@ -2,7 +2,7 @@
 use Rattle.std.proofs.Common.{◌≡◌, ℕ, zero, suc, ◌+◌, ◌-◌, ◌*◌, ◌%◌, ◌<◌, ◌≤◌, true, false, eqb, ◌≢◌, List, refl, ap, ⊎_elim, suc-mul, eq-or-lt_of_le, arith, eq-eqb, eqb-true}
 use Rattle.words.proofs.ChoiceLaws.{fails}
 use Rattle.blocks.specs.Blocks.{word_in, sum, check_word, is_sound}
-use Rattle.blocks.specs.Claims.{Bytes, DifferIn, SoundBlocks}
+use Rattle.blocks.specs.Claims.{Bytes, DifferIn, Sound}
 
 -- ---- sums
 
@@ -74,8 +74,8 @@ alike : (b : List ℕ) (k v : ℕ) → ((i : ℕ) → i < 256 → word_in b k i 
 unfolding is_sound check_word
 alike b k v same = rw (sum_alike (word_in b k) v 255 (λ j l. same j (omega arith)), same 255 (omega arith))
 
-pub sound-blocks : SoundBlocks
-sound-blocks = record {
+pub sound : Sound
+sound = record {
   sums = λ b k bytes. sums b k;
   sums-back = sums-back;
   one_word = one_word;

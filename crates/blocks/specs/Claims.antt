@@ -15,7 +15,7 @@ pub record DifferIn (b : List ℕ) (k : ℕ) (c : List ℕ) (l i : ℕ) : Type 0
   pub others : (j : ℕ) → j < 256 → j ≢ i → word_in b k j ≡ word_in c l j
   pub changed : word_in b k i ≢ word_in c l i
 
-pub record SoundBlocks : Type 0 where
+pub record Sound : Type 0 where
   -- a block is sound where its 256 words sum to $FFFF, modulo 65,536
   pub sums : (b : List ℕ) (k : ℕ) → Bytes b → is_sound b k ≡ true → sum (word_in b k) 256 % 65536 ≡ 0xffff
   pub sums-back : (b : List ℕ) (k : ℕ) → Bytes b → sum (word_in b k) 256 % 65536 ≡ 0xffff → is_sound b k ≡ true

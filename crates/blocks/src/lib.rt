@@ -89,7 +89,7 @@ fn total(store: &[u8], k: u8) -> u16
     t
 }
 
-fn is_sound(store: &[u8], k: u8) -> bool
+pub fn is_sound(store: &[u8], k: u8) -> bool
     ensures { result ≡ is_sound store.now k }
 {
     word(store, k, 255) == 0xffff - total(store, k)

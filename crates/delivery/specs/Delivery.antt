@@ -38,17 +38,16 @@ use Rattle.tpu.specs.Refusals.{Refusals}
 use Rattle.nearest.specs.Claims.{Nearest}
 use Rattle.sheet.specs.Claims as sheet
 use Rattle.sheet.specs.Claims.{Faster}
-use Rattle.ramp.specs.Claims.{Ramps, Limits}
+use Rattle.ramp.specs.Claims.{Ramps}
 use Rattle.numeral.specs.Claims.{DecimalWhole, DecimalParts, NoLonger}
 use Rattle.ramp_lines.specs.Claims as ramp_lines
 use Rattle.ramp_trials.specs.Numbers.{TextsRight}
 use Rattle.ramp_trials.specs.Sheets.{SheetsRight}
-use Rattle.blocks.specs.Claims.{SoundBlocks, Finds}
+use Rattle.blocks.specs.Claims.{Sound, Finds}
 use Rattle.board.specs.Saves.{Saves}
 use Rattle.board.specs.Loads.{Addresses, Loads}
 use Rattle.board.specs.RoundTrip.{RoundTrip}
 use Rattle.board.specs.History.{BoardHistory}
-use Rattle.settings_lines.specs.Claims as settings_lines
 
 -- term 1: which calls are taken and what each answers, what a refused one and a write leave alone, and that no motor moves without setup
 pub record EveryCall : Type 0 where
@@ -96,7 +95,6 @@ pub record MotorSheet : Type 0 where
   pub numbers : sheet.Takes
   pub faster : Faster
   pub ramps : Ramps
-  pub limits : Limits
   pub sheets : SheetsRight
   pub whole : DecimalWhole
   pub parts : DecimalParts
@@ -107,17 +105,13 @@ pub record MotorSheet : Type 0 where
 
 -- request #102
 pub record Settings : Type 0 where
-  pub sound-blocks : SoundBlocks
+  pub sound : Sound
   pub finds : Finds
   pub addresses : Addresses
   pub saves : Saves
   pub loads : Loads
   pub round_trip : RoundTrip
   pub history : BoardHistory
-  pub reply-fits : settings_lines.NoneLonger
-  pub cut-same : settings_lines.CutSame
-  pub script-same : settings_lines.ScriptSame
-  pub as-printed : settings_lines.AsPrinted
 
 -- request #103: one decision, every move of one group, every list of calls
 pub record RateCount : Type 0 where

@@ -3,9 +3,9 @@ use Rattle.std.specs.Prelude.{◌≡◌, ℕ, ◌*◌, ◌≤◌, List, length, 
 use Rattle.unit.specs.declared.State.{State}
 use Rattle.drawing.specs.Drawing.{drawing, seen_after}
 
--- nothing that a line draws is longer than 4,096 ticks of 909 bytes, so a buffer of that size (MAX_DRAWN) cuts none
+-- nothing that a line draws is longer than 4,096 ticks of 413 bytes, so a buffer of that size (MAX_DRAWN) cuts none
 abbrev pub NoneLonger : Type 0
-NoneLonger = (seen s : State) (ticks : ℕ) (line : List ℕ) → length (drawing seen s ticks line) ≤ 4096 * 909
+NoneLonger = (seen s : State) (ticks : ℕ) (line : List ℕ) → length (drawing seen s ticks line) ≤ 4096 * 413
 
 -- a line cut after 11 bytes or more draws what the whole line draws; tpu_wave keeps 16. State and ticks: `CutSame` of the script
 abbrev pub CutSame : Type 0

@@ -18,8 +18,8 @@ pub struct Drawn {
     pub length: usize,
 }
 
-// Nothing that a line draws is longer: 4,096 ticks of 909 bytes.
-pub const MAX_DRAWN: usize = State::MAX_TICKS as usize * 909;
+// Nothing that a line draws is longer: 4,096 ticks of 413 bytes.
+pub const MAX_DRAWN: usize = State::MAX_TICKS as usize * 413;
 
 // What a line, without its end, draws, put at the front of `out`: as much of it as fits.
 pub fn draw(seen: State, state: State, ticks: u64, line: &[u8], out: &mut [u8]) -> Drawn

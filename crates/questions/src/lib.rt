@@ -1,11 +1,14 @@
-// The questions put for a channel, of the state that lent words hold. Question 2 is `binding::is_free`; 8 and 14 are in `periods`.
+// The questions put for a channel, of the state that lent words hold. Question 2 is `binding::is_free`.
 ghost use Rattle.std.specs.Prelude.{◌≡◌, ◌<◌, length};
 ghost use Rattle.unit.specs.TheUnit.{all, size, mod_count};
-ghost use Rattle.unit.specs.Gate.{is_stepper, is_timed, may_initialise, otherwise_zero, span_good, is_ready, group_ready, shows_pattern, pattern_good, target_good};
+ghost use Rattle.unit.specs.Gate.{is_stepper, is_timed, may_initialise, otherwise_zero, span_good, is_ready, group_ready, shows_pattern, pattern_good, ramp_good, quick_good, target_good};
 ghost use Rattle.pack.specs.Packing.{state_words, state_in};
 
 use unit::State;
 use words::Timer;
+
+// P(N) is at least so many counts of the group's timer.
+const MIN_PERIOD: u16 = 128;
 
 // Question 3.
 pub fn is_stepper(s: &[u16], c: u16) -> bool
@@ -143,6 +146,23 @@ pub fn pattern_good(s: &[u16], c: u16) -> bool
         return false;
     }
     group_shows(s, c)
+}
+
+// Question 8.
+pub fn ramp_good(cntl0: u16, cntl1: u16, n: u16) -> bool
+    ensures { result ≡ ramp_good cntl0 cntl1 n }
+{
+    if step::period(cntl0, cntl1, n) < 1 {
+        return false;
+    }
+    step::period(cntl0, cntl1, 1) <= State::MAX_PERIOD
+}
+
+// Question 14, straight after it: however late a match is served, the next one is still to come.
+pub fn quick_good(cntl0: u16, cntl1: u16, n: u16) -> bool
+    ensures { result ≡ quick_good cntl0 cntl1 n }
+{
+    MIN_PERIOD <= step::period(cntl0, cntl1, n)
 }
 
 // Question 9.

@@ -12,12 +12,7 @@ use Rattle.motor.specs.Stepping.{period}
 use Rattle.unit.specs.Gate.{ramp_good}
 use Rattle.nearest.specs.Counting.{half_up}
 use Rattle.nearest.proofs.ValueLaws.{half-from, half-to}
-use Rattle.words.specs.Choice.{ask}
-use Rattle.nearest.specs.declared.Count.{Count}
-use Rattle.nearest.specs.declared.Count.TheVariants.{Whole, Outside}
-use Rattle.ramp.specs.declared.Limit.TheVariants.{First}
-use Rattle.ramp.specs.declared.Work.TheVariants.{Past}
-use Rattle.ramp.specs.Sheet.{slope, steps_of, ends_of}
+use Rattle.ramp.specs.Sheet.{slope}
 
 -- a nearest whole number is no larger than what is divided
 pub half-le-self : (k d : ℕ) → 0 < d → half_up k d ≤ k
@@ -75,14 +70,3 @@ question-8 cntl0 cntl1 n = (to, λ h. rw (le-leb 1 a (omega arith), le-leb b 0x7
         let l = leb-true 1 a (and_left (leb 1 a) (leb b 0x7fff) g) in
         let f = leb-true b 0x7fff (and_right (leb 1 a) (leb b 0x7fff) g) in
         (omega arith, omega arith)
-
--- a first count of 0 is past its limit, whatever the other count is
-pub zero-steps : (p n : ℕ) (difference : Count) → p < 1 → Past First ≡ steps_of (Whole p) difference n
-unfolding steps_of ask
-zero-steps p n Outside h = rw (lt-leb 1 p h)
-zero-steps p n (Whole d) h = rw (lt-leb 1 p h)
-
-pub zero-ends : (p n : ℕ) (last : Count) → p < 1 → Past First ≡ ends_of (Whole p) last n
-unfolding ends_of ask
-zero-ends p n Outside h = rw (lt-leb 1 p h)
-zero-ends p n (Whole q) h = rw (lt-leb 1 p h)

@@ -19,7 +19,7 @@ use Rattle.ramp.specs.declared.Counts.TheVariants.{Taken, Refused}
 use Rattle.ramp.specs.Sheet.{number_of, cntl0_of, cntl1_of, counts_of}
 use Rattle.ramp.specs.Claims.{WordsRun, MayRun, Runs, Ramps}
 use Rattle.ramp.proofs.CountLaws.{question-8}
-use Rattle.ramp.proofs.TakenLaws.{not-refused, taken_runs, eleven, ramp-takes}
+use Rattle.ramp.proofs.TakenLaws.{Fine, not-refused, counts-fine, ramp-takes}
 
 -- ---- how a ramp that may run does run
 
@@ -79,7 +79,8 @@ in-numbers (Refused k) n f g = rw (g k refl, no_words n)
 -- what the call answers, and its number
 pub answered : (x : Counts) (ramp : Ramp) (tick : Float) (n : ℕ) → x ≡ counts_of ramp tick n → (x ≡ counts_of ramp tick n) × (number_of x ≡ pick (ramp_good (cntl0_of x) (cntl1_of x) n) 0 11)
 answered x ramp tick n e =
-    (e, in-numbers x n (λ cntl0 cntl1 h. asks-8 ramp tick n cntl0 cntl1 (taken_runs ramp tick n cntl0 cntl1 (sym e ∙ h))) (λ k h. eleven ramp tick n k (sym e ∙ h)))
+    let f = counts-fine ramp tick n in
+    (e, in-numbers x n (λ cntl0 cntl1 h. asks-8 ramp tick n cntl0 cntl1 (f.taken cntl0 cntl1 (sym e ∙ h))) (λ k h. f.eleven k (sym e ∙ h)))
 
 -- ---- the claim
 
@@ -88,19 +89,22 @@ refused-else (Taken cntl0 cntl1) f g = absurd (f cntl0 cntl1 refl)
 refused-else (Refused k) f g = rw (g k refl)
 
 module _ (ramp : Ramp) (tick : Float) (n : ℕ) where
+  fine : Fine (MayRun ramp tick n) (counts_of ramp tick n)
+  fine = counts-fine ramp tick n
+
   none : counts_of ramp tick n ≡ Refused 11 → (cntl0 cntl1 : ℕ) → MayRun ramp tick n cntl0 cntl1 → ⊥
   none e cntl0 cntl1 r = not-refused cntl0 cntl1 11 (sym (ramp-takes ramp tick n cntl0 cntl1 r) ∙ e)
 
   refuses : ((cntl0 cntl1 : ℕ) → MayRun ramp tick n cntl0 cntl1 → ⊥) → counts_of ramp tick n ≡ Refused 11
-  refuses f = refused-else (counts_of ramp tick n) (λ cntl0 cntl1 e. f cntl0 cntl1 (taken_runs ramp tick n cntl0 cntl1 e)) (eleven ramp tick n)
+  refuses f = refused-else (counts_of ramp tick n) (λ cntl0 cntl1 e. f cntl0 cntl1 (fine.taken cntl0 cntl1 e)) fine.eleven
 
 pub ramps : Ramps
 ramps =
     record {
-      taken = λ ramp tick n cntl0 cntl1. (taken_runs ramp tick n cntl0 cntl1, ramp-takes ramp tick n cntl0 cntl1);
+      taken = λ ramp tick n cntl0 cntl1. ((fine ramp tick n).taken cntl0 cntl1, ramp-takes ramp tick n cntl0 cntl1);
       refused = λ ramp tick n. (none ramp tick n, refuses ramp tick n);
-      eleven = eleven;
+      eleven = λ ramp tick n. (fine ramp tick n).eleven;
       runs = λ ramp tick n cntl0 cntl1 e.
-          let r = taken_runs ramp tick n cntl0 cntl1 e in
+          let r = (fine ramp tick n).taken cntl0 cntl1 e in
           (asks-8 ramp tick n cntl0 cntl1 r, runs ramp tick n cntl0 cntl1 r);
     }

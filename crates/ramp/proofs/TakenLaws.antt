@@ -1,62 +1,184 @@
 -- A ramp is taken with two words exactly where it may run with them, and every refusal has the number 11.
-use Prim.Native.Nat.{ℕ}
-use mathlib.Core.Path.{◌≡◌, sym, ap}
+use Prim.Native.Nat.{ℕ, ◌+◌, ◌*◌, ◌≤◌}
+use mathlib.Core.Path.{◌≡◌, refl, sym}
+use mathlib.Core.Bool.{Bool, true}
 use native.Mathlib.Omega.{arith}
-use borrow.Author.Tests.{le-leb}
+use borrow.Author.Tests.{leb-true, le-leb}
+use lib.Dec.{leb}
 use lib.Ieee.{Float}
 use Rattle.words.specs.Choice.{ask}
-use Rattle.sheet.specs.Numbers.{period_count, speed_count}
+use Rattle.words.proofs.ChoiceLaws.{ask-cases}
+use Rattle.unit.specs.Gate.{ramp_good}
+use Rattle.nearest.specs.declared.Count.{Count}
+use Rattle.nearest.specs.declared.Count.TheVariants.{Whole, Outside}
+use Rattle.nearest.proofs.NearestLaws.{nearest-whole}
+use Rattle.sheet.specs.Numbers.{is_rate_count, is_positive, is_difference, is_speedup, period_count, speed_count}
 use Rattle.sheet.proofs.NumberLaws.{takes}
 use Rattle.ramp.specs.declared.Ramp.{Ramp}
 use Rattle.ramp.specs.declared.Ramp.TheVariants.{Periods, Speeds}
+use Rattle.ramp.specs.declared.Counts.{Counts}
 use Rattle.ramp.specs.declared.Counts.TheVariants.{Taken, Refused}
-use Rattle.ramp.specs.declared.Work.{Work}
-use Rattle.ramp.specs.declared.Work.TheVariants.{Words, Past}
-use Rattle.ramp.specs.Sheet.{counts_by, words_of, steps_of, ends_of, periods_of, speeds_of, work_of, counts_of}
-use Rattle.ramp.specs.Claims.{WordsRun, MayRun}
-use Rattle.ramp.proofs.CountLaws.{falls-slope, question-8}
-use Rattle.ramp.proofs.WorkLaws.{work-fine}
+use Rattle.ramp.specs.Sheet.{refused, slope, words_of, steps_of, ends_of, periods_of, speeds_of, by_kind, counts_of}
+use Rattle.ramp.specs.Claims.{WordsRun, PeriodsRun, SpeedsRun, MayRun}
+use Rattle.ramp.proofs.CountLaws.{slope-falls, falls-slope, question-8}
+
+-- ---- both kinds of answer: the words of a taken ramp have Q, and a refusal is 11
+
+pub record Fine (Q : ℕ → ℕ → Type 0) (x : Counts) : Type 0 where
+  pub taken : (cntl0 cntl1 : ℕ) → x ≡ Taken cntl0 cntl1 → Q cntl0 cntl1
+  pub eleven : (k : ℕ) → x ≡ Refused k → k ≡ 11
 
 -- an answer is not both
 pub not-refused : (cntl0 cntl1 k : ℕ) → Taken cntl0 cntl1 ≡ Refused k → ⊥
 not-refused cntl0 cntl1 k e = let z : ◌≡◌ {A = ℕ} 0 1 = cc in omega arith
 
--- ---- from the answer to the ramp
+module _ (Q : ℕ → ℕ → Type 0) where
+  refuses : Fine Q refused
+  refuses = record { taken = λ cntl0 cntl1 e. absurd (not-refused cntl0 cntl1 11 (sym e)); eleven = λ k e. cc }
 
--- words are answered where the work comes to them
-has_words : (w : Work) (cntl0 cntl1 : ℕ) → counts_by w ≡ Taken cntl0 cntl1 → w ≡ Words cntl0 cntl1
-has_words (Words a b) cntl0 cntl1 e = let f : a ≡ cntl0 = cc in let g : b ≡ cntl1 = cc in rw (f, g)
-has_words (Past l) cntl0 cntl1 e = absurd (not-refused cntl0 cntl1 11 (sym e))
+  yes : (cntl0 cntl1 : ℕ) → Q cntl0 cntl1 → Fine Q (Taken cntl0 cntl1)
+  yes cntl0 cntl1 h = record { taken = same; eleven = λ k e. absurd (not-refused cntl0 cntl1 k e) }
+    where
+      same : (a b : ℕ) → Taken cntl0 cntl1 ≡ Taken a b → Q a b
+      same a b e = let f : cntl0 ≡ a = cc in let g : cntl1 ≡ b = cc in rw (← f, ← g) h
 
-is-eleven : (w : Work) (k : ℕ) → counts_by w ≡ Refused k → k ≡ 11
-is-eleven (Words a b) k e = absurd (not-refused a b k e)
-is-eleven (Past l) k e = cc
+  asked : (q : Bool) (rest : Counts) → (q ≡ true → Fine Q rest) → Fine Q (ask q refused rest)
+  asked q rest f = ask-cases (Fine Q) q refused rest refuses f
 
-module _ (ramp : Ramp) (tick : Float) (n : ℕ) where
-  pub taken_runs : (cntl0 cntl1 : ℕ) → counts_of ramp tick n ≡ Taken cntl0 cntl1 → MayRun ramp tick n cntl0 cntl1
-  unfolding counts_of
-  taken_runs cntl0 cntl1 e = (work-fine ramp tick n).words cntl0 cntl1 (has_words (work_of ramp tick n) cntl0 cntl1 e)
+-- a weaker fact of the same answer
+weaker : (Q R : ℕ → ℕ → Type 0) (x : Counts) → ((cntl0 cntl1 : ℕ) → Q cntl0 cntl1 → R cntl0 cntl1) → Fine Q x → Fine R x
+weaker Q R x f h = record { taken = λ cntl0 cntl1 e. f cntl0 cntl1 (h.taken cntl0 cntl1 e); eleven = h.eleven }
 
-  pub eleven : (k : ℕ) → counts_of ramp tick n ≡ Refused k → k ≡ 11
-  unfolding counts_of
-  eleven k e = is-eleven (work_of ramp tick n) k e
+-- ---- from the answer to the ramp: the counts first
+
+module _ (n : ℕ) (rates : (1 ≤ n) × (n ≤ 14)) where
+  -- what P(1) and STEP_CNTL0 come to
+  abbrev Words : ℕ → ℕ → ℕ → ℕ → Type 0
+  Words p d cntl0 cntl1 = (d ≡ cntl0) × WordsRun n p cntl0 cntl1
+
+  words-fine : (p d : ℕ) → Fine (Words p d) (words_of p d n)
+  unfolding words_of
+  words-fine p d =
+      asked Q _ _
+      (λ l. asked Q (ramp_good d c n) _
+      (λ g. let h = (question-8 d c n).0 g in
+      yes Q d c (refl, record { rates = rates; sum = refl; word = omega (arith, leb-true c _ l); last = h.0; first = h.1 })))
+    where
+      c : ℕ
+      c = p + 2 * d
+
+      Q : ℕ → ℕ → Type 0
+      Q = Words p d
+
+  -- by the counts of the slowest period and of the difference
+  pub record FromSteps (first difference : Count) (cntl0 cntl1 : ℕ) : Type 0 where
+    pub p : ℕ
+    pub slowest : (first ≡ Whole p) × (1 ≤ p)
+    pub step : difference ≡ Whole cntl0
+    pub words : WordsRun n p cntl0 cntl1
+
+  steps-fine : (first difference : Count) → Fine (FromSteps first difference) (steps_of first difference n)
+  unfolding steps_of
+  steps-fine Outside difference = refuses (FromSteps Outside difference)
+  steps-fine (Whole p) Outside = refuses (FromSteps (Whole p) Outside)
+  steps-fine (Whole p) (Whole d) =
+      asked (FromSteps (Whole p) (Whole d)) (leb 1 p) (words_of p d n)
+      (λ l. weaker (Words p d) (FromSteps (Whole p) (Whole d)) (words_of p d n)
+      (λ cntl0 cntl1 w. record { p = p; slowest = (refl, leb-true 1 p l); step = rw w.0; words = w.1 }) (words-fine p d))
+
+  -- by the counts of the two periods
+  pub record FromEnds (first last : Count) (cntl0 cntl1 : ℕ) : Type 0 where
+    pub p : ℕ
+    pub q : ℕ
+    pub slowest : (first ≡ Whole p) × (1 ≤ p)
+    pub fastest : (last ≡ Whole q) × (1 ≤ q)
+    pub step : slope p q n ≡ cntl0
+    pub words : WordsRun n p cntl0 cntl1
+
+  ends-fine : (first last : Count) → Fine (FromEnds first last) (ends_of first last n)
+  unfolding ends_of
+  ends-fine Outside last = refuses (FromEnds Outside last)
+  ends-fine (Whole p) Outside = refuses (FromEnds (Whole p) Outside)
+  ends-fine (Whole p) (Whole q) =
+      let c = slope p q n in
+      let Q = FromEnds (Whole p) (Whole q) in
+      asked Q (leb 1 p) _
+      (λ l. asked Q (leb 1 q) (words_of p c n)
+      (λ g. weaker (Words p c) Q (words_of p c n)
+      (λ cntl0 cntl1 w. record { p = p; q = q; slowest = (refl, leb-true 1 p l); fastest = (refl, leb-true 1 q g); step = w.0; words = w.1 }) (words-fine p c)))
+
+  module _ (tick : Float) (ticks : is_positive tick ≡ true) where
+    periods-run : (slow difference : Float) → is_positive slow ≡ true → is_difference difference ≡ true → (cntl0 cntl1 : ℕ) → FromSteps (period_count slow tick) (period_count difference tick) cntl0 cntl1 → PeriodsRun slow difference tick n cntl0 cntl1
+    unfolding period_count
+    periods-run slow difference s d cntl0 cntl1 x =
+        record {
+          slow-above = (takes.positive slow).0 s;
+          difference-not-below = (takes.difference difference).0 d;
+          tick-above = (takes.positive tick).0 ticks;
+          p = x.p;
+          slowest = (x.slowest.0, x.slowest.1, nearest-whole.up_to _ x.p x.slowest.0);
+          step = (x.step, nearest-whole.up_to _ cntl0 x.step);
+          words = x.words;
+        }
+
+    speeds-run : (slow fast : Float) → is_positive slow ≡ true → is_positive fast ≡ true → is_speedup slow fast ≡ true → (cntl0 cntl1 : ℕ) → FromEnds (speed_count slow tick) (speed_count fast tick) cntl0 cntl1 → SpeedsRun slow fast tick n cntl0 cntl1
+    unfolding speed_count period_count
+    speeds-run slow fast s f o cntl0 cntl1 x =
+        let falls = slope-falls x.p x.q n in
+        record {
+          slow-above = (takes.positive slow).0 s;
+          fast-above = (takes.positive fast).0 f;
+          tick-above = (takes.positive tick).0 ticks;
+          in_order = (takes.speedup slow fast).0 o;
+          p = x.p;
+          q = x.q;
+          slowest = (x.slowest.0, x.slowest.1, nearest-whole.up_to _ x.p x.slowest.0);
+          fastest = (x.fastest.0, x.fastest.1, nearest-whole.up_to _ x.q x.fastest.0);
+          one-rate = rw (← x.step) falls.0;
+          step = rw (← x.step) falls.1;
+          words = x.words;
+        }
+
+    kind-fine : (ramp : Ramp) → Fine (MayRun ramp tick n) (by_kind ramp tick n)
+    unfolding periods_of speeds_of
+    kind-fine (Periods slow difference) =
+        let Q = PeriodsRun slow difference tick n in
+        let first = period_count slow tick in
+        let step = period_count difference tick in
+        asked Q (is_positive slow) _
+        (λ s. asked Q (is_difference difference) (steps_of first step n)
+        (λ d. weaker (FromSteps first step) Q (steps_of first step n) (periods-run slow difference s d) (steps-fine first step)))
+    kind-fine (Speeds slow fast) =
+        let Q = SpeedsRun slow fast tick n in
+        let first = speed_count slow tick in
+        let last = speed_count fast tick in
+        asked Q (is_positive slow) _
+        (λ s. asked Q (is_positive fast) _
+        (λ f. asked Q (is_speedup slow fast) (ends_of first last n)
+        (λ o. weaker (FromEnds first last) Q (ends_of first last n) (speeds-run slow fast s f o) (ends-fine first last))))
+
+pub counts-fine : (ramp : Ramp) (tick : Float) (n : ℕ) → Fine (MayRun ramp tick n) (counts_of ramp tick n)
+unfolding counts_of
+counts-fine ramp tick n =
+    asked (MayRun ramp tick n) (is_rate_count n) _
+    (λ i. asked (MayRun ramp tick n) (is_positive tick) (by_kind ramp tick n) (λ t. kind-fine n ((takes.rates n).0 i) tick t ramp))
 
 -- ---- from the ramp to the answer
 
-words_take : (n p cntl0 cntl1 : ℕ) → WordsRun n p cntl0 cntl1 → words_of p cntl0 n ≡ Words cntl0 cntl1
+words_take : (n p cntl0 cntl1 : ℕ) → WordsRun n p cntl0 cntl1 → words_of p cntl0 n ≡ Taken cntl0 cntl1
 unfolding words_of ask
 words_take n p cntl0 cntl1 w =
     rw (← w.sum, le-leb cntl1 0xffff w.word, (question-8 cntl0 cntl1 n).1 (w.last, w.first))
 
-run-words : (ramp : Ramp) (tick : Float) (n cntl0 cntl1 : ℕ) → MayRun ramp tick n cntl0 cntl1 → work_of ramp tick n ≡ Words cntl0 cntl1
-unfolding work_of periods_of speeds_of steps_of ends_of period_count speed_count ask
-run-words (Periods slow difference) tick n cntl0 cntl1 r =
+pub ramp-takes : (ramp : Ramp) (tick : Float) (n cntl0 cntl1 : ℕ) → MayRun ramp tick n cntl0 cntl1 → counts_of ramp tick n ≡ Taken cntl0 cntl1
+unfolding counts_of periods_of speeds_of steps_of ends_of period_count speed_count ask
+ramp-takes (Periods slow difference) tick n cntl0 cntl1 r =
     let i = (takes.rates n).1 r.words.rates in
     let t = (takes.positive tick).1 r.tick-above in
     let s = (takes.positive slow).1 r.slow-above in
     let d = (takes.difference difference).1 r.difference-not-below in
     rw (i, t, s, d, r.slowest.0, r.step.0, le-leb 1 r.p r.slowest.1) (words_take n r.p cntl0 cntl1 r.words)
-run-words (Speeds slow fast) tick n cntl0 cntl1 r =
+ramp-takes (Speeds slow fast) tick n cntl0 cntl1 r =
     let i = (takes.rates n).1 r.words.rates in
     let t = (takes.positive tick).1 r.tick-above in
     let s = (takes.positive slow).1 r.slow-above in
@@ -65,7 +187,3 @@ run-words (Speeds slow fast) tick n cntl0 cntl1 r =
     let c = falls-slope r.p r.q n cntl0 r.words.rates.0 (r.one-rate, r.step) in
     rw (i, t, s, f, o, r.slowest.0, r.fastest.0, le-leb 1 r.p r.slowest.1, le-leb 1 r.q r.fastest.1, c)
     (words_take n r.p cntl0 cntl1 r.words)
-
-pub ramp-takes : (ramp : Ramp) (tick : Float) (n cntl0 cntl1 : ℕ) → MayRun ramp tick n cntl0 cntl1 → counts_of ramp tick n ≡ Taken cntl0 cntl1
-unfolding counts_of
-ramp-takes ramp tick n cntl0 cntl1 r = ap counts_by (run-words ramp tick n cntl0 cntl1 r)

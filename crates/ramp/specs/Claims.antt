@@ -1,4 +1,4 @@
--- Which ramps are taken, with which words, how those run, and what a refused one is refused for. Paper 02, #101.
+-- Which ramps are taken, with which words, and how those run. Paper 02, #101.
 use Rattle.std.specs.Prelude.{ℕ, ◌+◌, ◌-◌, ◌*◌, ◌≤◌, ◌<◌, ◌≡◌, ◌↔◌, true, false, Float}
 use Rattle.std.specs.Float.{binary64}
 use Rattle.std.specs.Float.Ieee.{lt, div}
@@ -11,9 +11,7 @@ use Rattle.sheet.specs.Claims.{AboveZero, NotBelowZero}
 use Rattle.ramp.specs.declared.Ramp.{Ramp}
 use Rattle.ramp.specs.declared.Ramp.TheVariants.{Periods, Speeds}
 use Rattle.ramp.specs.declared.Counts.TheVariants.{Taken, Refused}
-use Rattle.ramp.specs.declared.Limit.{Limit}
-use Rattle.ramp.specs.declared.Limit.TheVariants.{Free, Rates, Tick, Slowest, Difference, Fastest, Order, First, Last, Step, Word, Steep}
-use Rattle.ramp.specs.Sheet.{number_of, slope, counts_of, limit_of}
+use Rattle.ramp.specs.Sheet.{counts_of}
 
 -- ---- which are taken: what is left by the list of refusals of paper 02, #101, as numbers
 
@@ -80,70 +78,6 @@ abbrev pub Runs : Ramp → Float → ℕ → ℕ → ℕ → Type 0
 Runs (Periods slow difference) tick n cntl0 cntl1 = Steady slow difference tick cntl0 cntl1
 Runs (Speeds slow fast) tick n cntl0 cntl1 = Between slow fast tick n cntl0 cntl1
 
--- ---- what it means to pass each limit, in numbers
-
--- the quotient has no count from 1 to $7FFF
-abbrev pub NoPeriod : Float → Type 0
-NoPeriod quotient = (p : ℕ) → IsPeriod quotient p → ⊥
-
--- P(1) and STEP_CNTL0, as the periods of a sheet give them, and as its speeds do
-abbrev pub ByPeriods : Float → Float → Float → ℕ → ℕ → Type 0
-ByPeriods slow difference tick p cntl0 = IsPeriod (div binary64 slow tick) p × (count_of (div binary64 difference tick) ≡ Whole cntl0)
-
-pub record BySpeeds (slow fast tick : Float) (n p cntl0 : ℕ) : Type 0 where
-  pub q : ℕ
-  pub slowest : IsPeriod (div binary64 (div binary64 thousand slow) tick) p
-  pub fastest : IsPeriod (div binary64 (div binary64 thousand fast) tick) q
-  pub step : slope p q n ≡ cntl0
-
--- STEP_CNTL1 does not fit its word
-pub record NoWord (By : ℕ → ℕ → Type 0) : Type 0 where
-  pub p : ℕ
-  pub cntl0 : ℕ
-  pub by : By p cntl0
-  pub above : 0xffff < p + 2 * cntl0
-
--- down to rate N the periods fall by the whole of P(1), or by more
-pub record NoLast (n : ℕ) (By : ℕ → ℕ → Type 0) : Type 0 where
-  pub p : ℕ
-  pub cntl0 : ℕ
-  pub by : By p cntl0
-  pub fall : p ≤ cntl0 * (n - 1)
-
--- periods pass none of the three limits of a fastest speed
-abbrev pub PeriodsPass : Float → Float → Float → ℕ → Limit → Type 0
-PeriodsPass slow difference tick n Free = ⊥
-PeriodsPass slow difference tick n Rates = (1 ≤ n) × (n ≤ 14) → ⊥
-PeriodsPass slow difference tick n Tick = AboveZero tick → ⊥
-PeriodsPass slow difference tick n Slowest = AboveZero slow → ⊥
-PeriodsPass slow difference tick n Difference = NotBelowZero difference → ⊥
-PeriodsPass slow difference tick n Fastest = ⊥
-PeriodsPass slow difference tick n Order = ⊥
-PeriodsPass slow difference tick n First = NoPeriod (div binary64 slow tick)
-PeriodsPass slow difference tick n Last = ⊥
-PeriodsPass slow difference tick n Step = (d : ℕ) → count_of (div binary64 difference tick) ≡ Whole d → ⊥
-PeriodsPass slow difference tick n Word = NoWord (ByPeriods slow difference tick)
-PeriodsPass slow difference tick n Steep = NoLast n (ByPeriods slow difference tick)
-
--- speeds pass neither of the two limits of a difference
-abbrev pub SpeedsPass : Float → Float → Float → ℕ → Limit → Type 0
-SpeedsPass slow fast tick n Free = ⊥
-SpeedsPass slow fast tick n Rates = (1 ≤ n) × (n ≤ 14) → ⊥
-SpeedsPass slow fast tick n Tick = AboveZero tick → ⊥
-SpeedsPass slow fast tick n Slowest = AboveZero slow → ⊥
-SpeedsPass slow fast tick n Difference = ⊥
-SpeedsPass slow fast tick n Fastest = AboveZero fast → ⊥
-SpeedsPass slow fast tick n Order = lt fast slow ≡ true
-SpeedsPass slow fast tick n First = NoPeriod (div binary64 (div binary64 thousand slow) tick)
-SpeedsPass slow fast tick n Last = NoPeriod (div binary64 (div binary64 thousand fast) tick)
-SpeedsPass slow fast tick n Step = ⊥
-SpeedsPass slow fast tick n Word = NoWord (BySpeeds slow fast tick n)
-SpeedsPass slow fast tick n Steep = NoLast n (BySpeeds slow fast tick n)
-
-abbrev pub Passes : Ramp → Float → ℕ → Limit → Type 0
-Passes (Periods slow difference) tick n limit = PeriodsPass slow difference tick n limit
-Passes (Speeds slow fast) tick n limit = SpeedsPass slow fast tick n limit
-
 -- ---- for every ramp, tick length and N
 
 pub record Ramps : Type 0 where
@@ -154,10 +88,3 @@ pub record Ramps : Type 0 where
   pub eleven : (ramp : Ramp) (tick : Float) (n number : ℕ) → counts_of ramp tick n ≡ Refused number → number ≡ 11
   -- the gate's question 8 takes the words, and this is how they run
   pub runs : (ramp : Ramp) (tick : Float) (n cntl0 cntl1 : ℕ) → counts_of ramp tick n ≡ Taken cntl0 cntl1 → (ramp_good cntl0 cntl1 n ≡ true) × Runs ramp tick n cntl0 cntl1
-
--- which limit is named
-pub record Limits : Type 0 where
-  -- none exactly where the ramp is taken: then the number is 0
-  pub free : (ramp : Ramp) (tick : Float) (n : ℕ) → limit_of ramp tick n ≡ Free ↔ number_of (counts_of ramp tick n) ≡ 0
-  -- where it is refused, one that the ramp does pass
-  pub passed : (ramp : Ramp) (tick : Float) (n : ℕ) → counts_of ramp tick n ≡ Refused 11 → Passes ramp tick n (limit_of ramp tick n)

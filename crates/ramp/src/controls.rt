@@ -3,41 +3,41 @@ ghost use Rattle.std.specs.Prelude.{◌≡◌, ◌≤◌};
 ghost use Rattle.sheet.specs.Numbers.{InOrder};
 ghost use Rattle.ramp.specs.Sheet.{slope, words_of, steps_of, ends_of};
 
-use crate::{Limit, Work};
+use crate::{Counts, REFUSAL};
 use nearest::Count;
 
 // By the counts of the slowest period and of the difference.
-pub fn steps(first: Count, difference: Count, n: u8) -> Work
+pub fn steps(first: Count, difference: Count, n: u8) -> Counts
     ensures { result ≡ steps_of first difference n }
 {
     let Count::Whole(p) = first else {
-        return Work::Past(Limit::First);
+        return Counts::Refused(REFUSAL);
+    };
+    let Count::Whole(d) = difference else {
+        return Counts::Refused(REFUSAL);
     };
     if p < 1 {
-        return Work::Past(Limit::First);
+        return Counts::Refused(REFUSAL);
     }
-    let Count::Whole(d) = difference else {
-        return Work::Past(Limit::Step);
-    };
     words(p, d, n)
 }
 
 // By the counts of the periods at both ends. The speeds being in order, so are these.
-pub fn ends(first: Count, last: Count, n: u8) -> Work
+pub fn ends(first: Count, last: Count, n: u8) -> Counts
     requires { InOrder first last }
     ensures { result ≡ ends_of first last n }
 {
     let Count::Whole(slowest) = first else {
-        return Work::Past(Limit::First);
+        return Counts::Refused(REFUSAL);
+    };
+    let Count::Whole(fastest) = last else {
+        return Counts::Refused(REFUSAL);
     };
     if slowest < 1 {
-        return Work::Past(Limit::First);
+        return Counts::Refused(REFUSAL);
     }
-    let Count::Whole(fastest) = last else {
-        return Work::Past(Limit::Last);
-    };
     if fastest < 1 {
-        return Work::Past(Limit::Last);
+        return Counts::Refused(REFUSAL);
     }
     words(slowest, slope(slowest, fastest, n), n)
 }
@@ -56,15 +56,18 @@ fn slope(p: u16, q: u16, n: u8) -> u16
 }
 
 // From P(1) and STEP_CNTL0, if question 8 takes them.
-fn words(p: u16, cntl0: u16, n: u8) -> Work
+fn words(p: u16, cntl0: u16, n: u8) -> Counts
     ensures { result ≡ words_of p cntl0 n }
 {
     let cntl1 = p as u32 + 2 * (cntl0 as u32);
     if 0xffff < cntl1 {
-        return Work::Past(Limit::Word);
+        return Counts::Refused(REFUSAL);
     }
-    if !periods::ramp_good(cntl0, cntl1 as u16, n as u16) {
-        return Work::Past(Limit::Steep);
+    if !questions::ramp_good(cntl0, cntl1 as u16, n as u16) {
+        return Counts::Refused(REFUSAL);
     }
-    Work::Words(cntl0, cntl1 as u16)
+    Counts::Taken {
+        step_cntl0: cntl0,
+        step_cntl1: cntl1 as u16,
+    }
 }

@@ -3,7 +3,7 @@ ghost use Rattle.std.specs.Prelude.{◌≡◌, true};
 ghost use Rattle.sheet.specs.Numbers.{is_positive};
 ghost use Rattle.words.specs.Choice.{pick};
 ghost use Rattle.unit.specs.Gate.{ramp_good};
-ghost use Rattle.ramp.specs.Sheet.{number_of, cntl0_of, cntl1_of, periods_of, speeds_of, work_of, counts_of, limit_of};
+ghost use Rattle.ramp.specs.Sheet.{number_of, cntl0_of, cntl1_of, periods_of, speeds_of, counts_of};
 
 use crate::controls::{ends, steps};
 
@@ -25,44 +25,6 @@ pub enum Counts {
     Refused(u8),
 }
 
-// What refused a ramp, in the order of the tests. A size is a number that is finite and above zero.
-#[derive(Drop)]
-pub enum Limit {
-    // nothing did: the ramp is taken
-    Free,
-    // N is not 1 to 14
-    Rates,
-    // the tick length is no size
-    Tick,
-    // the slowest period or speed is no size
-    Slowest,
-    // the difference is below zero or not finite
-    Difference,
-    // the fastest speed is no size
-    Fastest,
-    // the fastest speed is below the slowest
-    Order,
-    // the slowest has a count that is not 1 to $7FFF
-    First,
-    // the fastest has such a count
-    Last,
-    // the difference has a count above $7FFF
-    Step,
-    // STEP_CNTL1 is above $FFFF
-    Word,
-    // question 8: with N rates the last period is less than one count
-    Steep,
-}
-
-// What the work on a sheet comes to.
-#[derive(Drop)]
-enum Work {
-    // STEP_CNTL0 and STEP_CNTL1
-    Words(u16, u16),
-    // the first limit that is passed
-    Past(Limit),
-}
-
 // The number of the refusal.
 const REFUSAL: u8 = 11;
 
@@ -70,35 +32,11 @@ const REFUSAL: u8 = 11;
 pub fn from_sheet(ramp: Ramp, tick: f64, n: u8) -> Counts
     ensures { (result ≡ counts_of ramp tick n) × (number_of result ≡ pick (ramp_good (cntl0_of result) (cntl1_of result) n) 0 11) }
 {
-    let work = worked(ramp, tick, n);
-    match work {
-        Work::Words(cntl0, cntl1) => Counts::Taken {
-            step_cntl0: cntl0,
-            step_cntl1: cntl1,
-        },
-        Work::Past(_) => Counts::Refused(REFUSAL),
-    }
-}
-
-// Which limit refuses the ramp: the first in the order of the tests.
-pub fn first_limit(ramp: Ramp, tick: f64, n: u8) -> Limit
-    ensures { result ≡ limit_of ramp tick n }
-{
-    let work = worked(ramp, tick, n);
-    match work {
-        Work::Words(_, _) => Limit::Free,
-        Work::Past(limit) => limit,
-    }
-}
-
-fn worked(ramp: Ramp, tick: f64, n: u8) -> Work
-    ensures { result ≡ work_of ramp tick n }
-{
     if !sheet::is_rate_count(n) {
-        return Work::Past(Limit::Rates);
+        return Counts::Refused(REFUSAL);
     }
     if !sheet::is_positive(tick) {
-        return Work::Past(Limit::Tick);
+        return Counts::Refused(REFUSAL);
     }
     match ramp {
         Ramp::Periods(slow, difference) => periods(slow, difference, tick, n),
@@ -106,14 +44,14 @@ fn worked(ramp: Ramp, tick: f64, n: u8) -> Work
     }
 }
 
-fn periods(slowest: f64, difference: f64, tick: f64, n: u8) -> Work
+fn periods(slowest: f64, difference: f64, tick: f64, n: u8) -> Counts
     ensures { result ≡ periods_of slowest difference tick n }
 {
     if !sheet::is_positive(slowest) {
-        return Work::Past(Limit::Slowest);
+        return Counts::Refused(REFUSAL);
     }
     if !sheet::is_difference(difference) {
-        return Work::Past(Limit::Difference);
+        return Counts::Refused(REFUSAL);
     }
     steps(
         sheet::period_count(slowest, tick),
@@ -122,18 +60,18 @@ fn periods(slowest: f64, difference: f64, tick: f64, n: u8) -> Work
     )
 }
 
-fn speeds(slow: f64, fast: f64, tick: f64, n: u8) -> Work
+fn speeds(slow: f64, fast: f64, tick: f64, n: u8) -> Counts
     requires { is_positive tick ≡ true }
     ensures { result ≡ speeds_of slow fast tick n }
 {
     if !sheet::is_positive(slow) {
-        return Work::Past(Limit::Slowest);
+        return Counts::Refused(REFUSAL);
     }
     if !sheet::is_positive(fast) {
-        return Work::Past(Limit::Fastest);
+        return Counts::Refused(REFUSAL);
     }
     if !sheet::is_speedup(slow, fast) {
-        return Work::Past(Limit::Order);
+        return Counts::Refused(REFUSAL);
     }
     ends(
         sheet::speed_count(slow, tick),

@@ -5,7 +5,6 @@ use native.Mathlib.Omega.{arith}
 use lib.Ieee.{Float}
 use lib.ListN.{length, length-append}
 use Rattle.motor.specs.Stepping.{period}
-use Rattle.text.specs.Ascii.{ascii}
 use Rattle.text.specs.Printing.{hex_word}
 use Rattle.ramp.specs.declared.Ramp.{Ramp}
 use Rattle.ramp.specs.declared.Ramp.TheVariants.{Periods, Speeds}
@@ -13,14 +12,12 @@ use Rattle.ramp.specs.Claims.{MayRun}
 use Rattle.ramp.proofs.RampLaws.{ramps}
 use Rattle.ramp.specs.declared.Counts.{Counts}
 use Rattle.ramp.specs.declared.Counts.TheVariants.{Taken, Refused}
-use Rattle.ramp.specs.declared.Limit.{Limit}
-use Rattle.ramp.specs.declared.Limit.TheVariants.{Free, Rates, Tick, Slowest, Difference, Fastest, Order, First, Last, Step, Word, Steep}
 use Rattle.ramp_lines.specs.declared.line.Request.{Request}
 use Rattle.ramp_lines.specs.declared.line.Request.TheVariants.{Asks, Other}
 use Rattle.ramp_lines.specs.Lines.{request_of}
-use Rattle.ramp_lines.specs.Replying.{periods_to, taken, name_of, refused_by, answer_by, reply_by, reply_to}
+use Rattle.ramp_lines.specs.Replying.{periods_to, taken, answer_by, reply_by, reply_to}
 use Rattle.ramp_lines.specs.Claims.{NoneLonger}
-use Rattle.text.proofs.LengthLaws.{decimal-short}
+use Rattle.text.proofs.LengthLaws.{decimal-short, number-line}
 
 -- no period is longer than STEP_CNTL1
 period-le : (cntl0 cntl1 r : ℕ) → period cntl0 cntl1 r ≤ cntl1
@@ -39,32 +36,17 @@ in-range : (ramp : Ramp) (tick : Float) (n cntl0 cntl1 : ℕ) → MayRun ramp ti
 in-range (Periods slow difference) tick n cntl0 cntl1 r = (r.words.rates.1, r.words.word)
 in-range (Speeds slow fast) tick n cntl0 cntl1 r = (r.words.rates.1, r.words.word)
 
-name-short : (l : Limit) → length (name_of l) ≤ 10
-unfolding name_of ascii
-name-short Free = omega arith
-name-short Rates = omega arith
-name-short Tick = omega arith
-name-short Slowest = omega arith
-name-short Difference = omega arith
-name-short Fastest = omega arith
-name-short Order = omega arith
-name-short First = omega arith
-name-short Last = omega arith
-name-short Step = omega arith
-name-short Word = omega arith
-name-short Steep = omega arith
-
-answer-short : (letter n : ℕ) (x : Counts) (l : Limit) → ((cntl0 cntl1 : ℕ) → x ≡ Taken cntl0 cntl1 → (n ≤ 14) × (cntl1 ≤ 0xffff)) → length (answer_by letter n x l) ≤ 12 + 14 * 6
-unfolding answer_by taken refused_by hex_word
-answer-short letter n (Taken cntl0 cntl1) l h =
+answer-short : (letter n : ℕ) (x : Counts) → ((cntl0 cntl1 : ℕ) → x ≡ Taken cntl0 cntl1 → (n ≤ 14) × (cntl1 ≤ 0xffff)) → length (answer_by letter n x) ≤ 12 + 14 * 6
+unfolding answer_by taken hex_word
+answer-short letter n (Taken cntl0 cntl1) h =
     let fits = h cntl0 cntl1 refl in
     simp length-append (omega (arith, fits.0, periods-short n cntl0 cntl1 fits.1))
-answer-short letter n (Refused q) l h = simp length-append (omega (arith, decimal-short.1 q, name-short l))
+answer-short letter n (Refused q) h = rw (number-line 78 q) (omega (arith, decimal-short.1 q))
 
 request-short : (q : Request) → length (reply_by q) ≤ 12 + 14 * 6
 unfolding reply_by
 request-short (Asks sheet tick n) =
-    answer-short _ n _ _ (λ cntl0 cntl1 e. in-range sheet tick n cntl0 cntl1 ((ramps.taken sheet tick n cntl0 cntl1).0 e))
+    answer-short _ n _ (λ cntl0 cntl1 e. in-range sheet tick n cntl0 cntl1 ((ramps.taken sheet tick n cntl0 cntl1).0 e))
 request-short Other = omega arith
 
 pub none-longer : NoneLonger

@@ -7,14 +7,14 @@ use lib.ListN.{length}
 use lib.Ieee.{Float}
 use Rattle.ramp.specs.declared.Ramp.{Ramp}
 use Rattle.ramp.specs.declared.Counts.{Counts}
-use Rattle.ramp.specs.Sheet.{counts_of, limit_of}
+use Rattle.ramp.specs.Sheet.{counts_of}
 use Rattle.motor.specs.Stepping.{period}
 use Rattle.text.specs.Placing.{Wrote, written}
 use Rattle.text.specs.Printing.{decimal}
 use Rattle.ramp_lines.specs.declared.line.Request.{Request}
 use Rattle.ramp_lines.specs.declared.line.Request.TheVariants.{Asks}
 use Rattle.ramp_lines.specs.Lines.{request_of}
-use Rattle.ramp_lines.specs.Replying.{periods_to, answer_by, answer_to, letter_of, reply_by, reply_to}
+use Rattle.ramp_lines.specs.Replying.{periods_to, answer_by, letter_of, reply_by, reply_to}
 use Rattle.text.proofs.PlacingLaws.{also, from_front}
 
 pub next-period :
@@ -39,18 +39,10 @@ module _ (out left : List ℕ) (place : ℕ) where
   by-request line asked q e t w = rw (← e, t) (w.next ∙ from_front (reply_by q) (length out), w.buffer)
 
   pub asks :
-      (sheet : Ramp) (tick : Float) (n letter : ℕ) →
+      (sheet : Ramp) (tick : Float) (n letter : ℕ) (counts : Counts) →
+      counts ≡ counts_of sheet tick n →
       letter ≡ letter_of sheet →
-      Wrote out 0 (answer_to letter sheet tick n) place left →
+      Wrote out 0 (answer_by letter n counts) place left →
       Wrote out 0 (reply_by (Asks sheet tick n)) place left
   unfolding reply_by
-  asks sheet tick n letter t w = rw (← t) w
-
-  -- what a sheet comes to, from the counts that it was answered with
-  pub answers :
-      (letter : ℕ) (sheet : Ramp) (tick : Float) (n : ℕ) (counts x : Counts) →
-      counts ≡ counts_of sheet tick n →
-      counts ≡ x →
-      Wrote out 0 (answer_by letter n x (limit_of sheet tick n)) place left →
-      Wrote out 0 (answer_to letter sheet tick n) place left
-  answers letter sheet tick n counts x e t w = rw (← e, t) w
+  asks sheet tick n letter counts e t w = rw (← e, ← t) w

@@ -1,15 +1,12 @@
 -- The bytes that answer a line. Paper 02, #101. 32 is the space, 10 the end of a line.
-use Rattle.std.specs.Prelude.{ℕ, zero, suc, List, [], ◌∷◌, ◌++◌, Float}
+use Rattle.std.specs.Prelude.{ℕ, zero, suc, List, [], ◌∷◌, ◌++◌}
 use Rattle.motor.specs.Stepping.{period}
-use Rattle.text.specs.Ascii.{ascii}
-use Rattle.text.specs.Printing.{hex_word, decimal}
+use Rattle.text.specs.Printing.{hex_word, decimal, number_line}
 use Rattle.ramp.specs.declared.Ramp.{Ramp}
 use Rattle.ramp.specs.declared.Ramp.TheVariants.{Periods, Speeds}
 use Rattle.ramp.specs.declared.Counts.{Counts}
 use Rattle.ramp.specs.declared.Counts.TheVariants.{Taken, Refused}
-use Rattle.ramp.specs.declared.Limit.{Limit}
-use Rattle.ramp.specs.declared.Limit.TheVariants.{Free, Rates, Tick, Slowest, Difference, Fastest, Order, First, Last, Step, Word, Steep}
-use Rattle.ramp.specs.Sheet.{counts_of, limit_of}
+use Rattle.ramp.specs.Sheet.{counts_of}
 use Rattle.ramp_lines.specs.declared.line.Request.{Request}
 use Rattle.ramp_lines.specs.declared.line.Request.TheVariants.{Asks, Other}
 use Rattle.ramp_lines.specs.Lines.{request_of}
@@ -24,31 +21,10 @@ unfoldable pub taken : ℕ → ℕ → ℕ → ℕ → List ℕ
 taken letter n cntl0 cntl1 =
     letter ∷ 32 ∷ hex_word cntl0 ++ (32 ∷ hex_word cntl1 ++ (periods_to n cntl0 cntl1 ++ (10 ∷ [])))
 
--- the word for each limit; the first is never printed, since what is refused has passed one (claim `Limits`)
-unfoldable pub name_of : Limit → List ℕ
-name_of Free = ascii "free"
-name_of Rates = ascii "rates"
-name_of Tick = ascii "tick"
-name_of Slowest = ascii "slowest"
-name_of Difference = ascii "difference"
-name_of Fastest = ascii "fastest"
-name_of Order = ascii "order"
-name_of First = ascii "first"
-name_of Last = ascii "last"
-name_of Step = ascii "step"
-name_of Word = ascii "word"
-name_of Steep = ascii "steep"
-
--- or, refused, `N` (78), the number and the limit's word
-unfoldable pub refused_by : ℕ → Limit → List ℕ
-refused_by q limit = 78 ∷ 32 ∷ decimal q ++ (32 ∷ name_of limit ++ (10 ∷ []))
-
-unfoldable pub answer_by : ℕ → ℕ → Counts → Limit → List ℕ
-answer_by letter n (Taken cntl0 cntl1) limit = taken letter n cntl0 cntl1
-answer_by letter n (Refused q) limit = refused_by q limit
-
-abbrev pub answer_to : ℕ → Ramp → Float → ℕ → List ℕ
-answer_to letter sheet tick n = answer_by letter n (counts_of sheet tick n) (limit_of sheet tick n)
+-- or, refused, `N` (78) and the number
+unfoldable pub answer_by : ℕ → ℕ → Counts → List ℕ
+answer_by letter n (Taken cntl0 cntl1) = taken letter n cntl0 cntl1
+answer_by letter n (Refused q) = number_line 78 q
 
 -- `P` (80) or `S` (83), as the line had it
 unfoldable pub letter_of : Ramp → ℕ
@@ -57,7 +33,7 @@ letter_of (Speeds slow fast) = 83
 
 -- any line that asks for no ramp gets `E` (69)
 unfoldable pub reply_by : Request → List ℕ
-reply_by (Asks sheet tick n) = answer_to (letter_of sheet) sheet tick n
+reply_by (Asks sheet tick n) = answer_by (letter_of sheet) n (counts_of sheet tick n)
 reply_by Other = 69 ∷ 10 ∷ []
 
 unfoldable pub reply_to : List ℕ → List ℕ

@@ -19,7 +19,10 @@ pub fn reply(line: &[u8], out: &mut [u8]) -> usize
 {
     let asked = line::read(line);
     match asked {
-        Request::Asks(sheet, tick, n) => print::answer(out, letter(sheet), sheet, tick, n),
+        Request::Asks(sheet, tick, n) => {
+            let counts = ramp::from_sheet(sheet, tick, n);
+            print::answer(out, letter(sheet), n, counts)
+        }
         Request::Other => text::pair(out, 0, b'E', b'\n'),
     }
 }

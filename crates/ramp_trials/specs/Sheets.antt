@@ -11,18 +11,11 @@ use Rattle.ramp.specs.declared.Ramp.{Ramp}
 use Rattle.ramp.specs.declared.Ramp.TheVariants.{Periods, Speeds}
 use Rattle.ramp.specs.declared.Counts.{Counts}
 use Rattle.ramp.specs.declared.Counts.TheVariants.{Taken, Refused}
-use Rattle.ramp.specs.declared.Limit.{Limit}
-use Rattle.ramp.specs.declared.Limit.TheVariants.{Free, Rates, Tick, Slowest, Difference, Fastest, Order, First, Last, Step, Word, Steep}
-use Rattle.ramp.specs.Sheet.{refused, counts_of, limit_of}
+use Rattle.ramp.specs.Sheet.{refused, counts_of}
 
--- two words, or the limit for which a ramp is refused
-pub data Result : Type 0 where
-  Words : ℕ → ℕ → Result
-  Past : Limit → Result
-
--- a ramp, the tick length, N, and what they come to
+-- a ramp, the tick length, N, and the answer
 pub data Row : Type 0 where
-  row : Ramp → Float → ℕ → Result → Row
+  row : Ramp → Float → ℕ → Counts → Row
 
 unfoldable pub is_answer : Counts → Counts → Bool
 is_answer (Taken a b) (Taken c d) = eqb a c && eqb b d
@@ -30,28 +23,8 @@ is_answer (Taken a b) (Refused k) = false
 is_answer (Refused k) (Taken a b) = false
 is_answer (Refused k) (Refused j) = eqb k j
 
--- limits by their place in the order of the tests
-unfoldable pub place_of : Limit → ℕ
-place_of Free = 0
-place_of Rates = 1
-place_of Tick = 2
-place_of Slowest = 3
-place_of Difference = 4
-place_of Fastest = 5
-place_of Order = 6
-place_of First = 7
-place_of Last = 8
-place_of Step = 9
-place_of Word = 10
-place_of Steep = 11
-
-unfoldable pub is_limit : Limit → Limit → Bool
-is_limit a b = eqb (place_of a) (place_of b)
-
--- both calls answer so
 unfoldable pub is_right : Row → Bool
-is_right (row sheet tick n (Words a b)) = is_answer (counts_of sheet tick n) (Taken a b) && is_limit (limit_of sheet tick n) Free
-is_right (row sheet tick n (Past limit)) = is_answer (counts_of sheet tick n) refused && is_limit (limit_of sheet tick n) limit
+is_right (row sheet tick n answer) = is_answer (counts_of sheet tick n) answer
 
 unfoldable pub all_right : List Row → Bool
 all_right [] = true
@@ -80,100 +53,92 @@ no_positive = nan ∷ inf false ∷ inf true ∷ d "0" ∷ neg (d "0") ∷ neg (
 
 unfoldable pub not_positive : List Row
 not_positive =
-    for_each no_positive (λ x. row (Periods x (d "0.2")) (d "0.01") 10 (Past Slowest))
-    ++ (for_each no_positive (λ x. row (Periods (d "4.0") (d "0.2")) x 10 (Past Tick))
-    ++ (for_each no_positive (λ x. row (Speeds x (d "42.9")) (d "0.01") 14 (Past Slowest))
-    ++ (for_each no_positive (λ x. row (Speeds (d "30.0") x) (d "0.01") 14 (Past Fastest))
-    ++ for_each no_positive (λ x. row (Speeds (d "30.0") (d "42.9")) x 14 (Past Tick)))))
+    for_each no_positive (λ x. row (Periods x (d "0.2")) (d "0.01") 10 refused)
+    ++ (for_each no_positive (λ x. row (Periods (d "4.0") (d "0.2")) x 10 refused)
+    ++ (for_each no_positive (λ x. row (Speeds x (d "42.9")) (d "0.01") 14 refused)
+    ++ (for_each no_positive (λ x. row (Speeds (d "30.0") x) (d "0.01") 14 refused)
+    ++ for_each no_positive (λ x. row (Speeds (d "30.0") (d "42.9")) x 14 refused))))
 
 unfoldable pub sheets : List Row
 sheets =
     -- those of document 01's first trials: 20 and 440, 77 and 3487
-    row (Periods (d "4.0") (d "0.2")) (d "0.01") 10 (Words 20 440) ∷
-    row (Speeds (d "30.0") (d "42.9")) (d "0.01") 14 (Words 77 3487) ∷
+    row (Periods (d "4.0") (d "0.2")) (d "0.01") 10 (Taken 20 440) ∷
+    row (Speeds (d "30.0") (d "42.9")) (d "0.01") 14 (Taken 77 3487) ∷
     -- N is 1 to 14
-    row (Periods (d "4.0") (d "0.2")) (d "0.01") 0 (Past Rates) ∷
-    row (Periods (d "4.0") (d "0.2")) (d "0.01") 1 (Words 20 440) ∷
-    row (Periods (d "4.0") (d "0.2")) (d "0.01") 14 (Words 20 440) ∷
-    row (Periods (d "4.0") (d "0.2")) (d "0.01") 15 (Past Rates) ∷
-    row (Periods (d "4.0") (d "0.2")) (d "0.01") 255 (Past Rates) ∷
-    row (Speeds (d "30.0") (d "42.9")) (d "0.01") 0 (Past Rates) ∷
-    row (Speeds (d "30.0") (d "42.9")) (d "0.01") 1 (Words 0 3333) ∷
-    row (Speeds (d "30.0") (d "42.9")) (d "0.01") 15 (Past Rates) ∷
+    row (Periods (d "4.0") (d "0.2")) (d "0.01") 0 refused ∷
+    row (Periods (d "4.0") (d "0.2")) (d "0.01") 1 (Taken 20 440) ∷
+    row (Periods (d "4.0") (d "0.2")) (d "0.01") 14 (Taken 20 440) ∷
+    row (Periods (d "4.0") (d "0.2")) (d "0.01") 15 refused ∷
+    row (Periods (d "4.0") (d "0.2")) (d "0.01") 255 refused ∷
+    row (Speeds (d "30.0") (d "42.9")) (d "0.01") 0 refused ∷
+    row (Speeds (d "30.0") (d "42.9")) (d "0.01") 1 (Taken 0 3333) ∷
+    row (Speeds (d "30.0") (d "42.9")) (d "0.01") 15 refused ∷
     -- a difference may be zero, of either sign, and nothing below it: the count of the last would be 0
-    row (Periods (d "4.0") (d "0")) (d "0.01") 10 (Words 0 400) ∷
-    row (Periods (d "4.0") (neg (d "0"))) (d "0.01") 10 (Words 0 400) ∷
-    row (Periods (d "4.0") (neg (d "0.2"))) (d "0.01") 10 (Past Difference) ∷
-    row (Periods (d "4.0") (neg (d "0.001"))) (d "0.01") 10 (Past Difference) ∷
-    row (Periods (d "4.0") nan) (d "0.01") 10 (Past Difference) ∷
-    row (Periods (d "4.0") (inf false)) (d "0.01") 10 (Past Difference) ∷
-    row (Periods (d "4.0") (inf true)) (d "0.01") 10 (Past Difference) ∷
+    row (Periods (d "4.0") (d "0")) (d "0.01") 10 (Taken 0 400) ∷
+    row (Periods (d "4.0") (neg (d "0"))) (d "0.01") 10 (Taken 0 400) ∷
+    row (Periods (d "4.0") (neg (d "0.2"))) (d "0.01") 10 refused ∷
+    row (Periods (d "4.0") (neg (d "0.001"))) (d "0.01") 10 refused ∷
+    row (Periods (d "4.0") nan) (d "0.01") 10 refused ∷
+    row (Periods (d "4.0") (inf false)) (d "0.01") 10 refused ∷
+    row (Periods (d "4.0") (inf true)) (d "0.01") 10 refused ∷
     -- the top speed is not below the slowest
-    row (Speeds (d "42.9") (d "30.0")) (d "0.01") 14 (Past Order) ∷
-    row (Speeds (d "30.0") (d "30.0")) (d "0.01") 14 (Words 0 3333) ∷
-    row (Speeds (bits 0x403e000000000001) (d "30.0")) (d "0.01") 14 (Past Order) ∷
+    row (Speeds (d "42.9") (d "30.0")) (d "0.01") 14 refused ∷
+    row (Speeds (d "30.0") (d "30.0")) (d "0.01") 14 (Taken 0 3333) ∷
+    row (Speeds (bits 0x403e000000000001) (d "30.0")) (d "0.01") 14 refused ∷
     -- a period count is 1 to $7FFF
-    row (Periods (d "0.5") (d "0")) (d "1") 1 (Words 0 1) ∷
-    row (Periods (bits 0x3fdfffffffffffff) (d "0")) (d "1") 1 (Past First) ∷
-    row (Periods (d "0.004") (d "0")) (d "0.01") 1 (Past First) ∷
-    row (Periods (bits 0x40dfffdfffffffff) (d "0")) (d "1") 1 (Words 0 32767) ∷
-    row (Periods (d "32767.5") (d "0")) (d "1") 1 (Past First) ∷
-    row (Periods (d "327.68") (d "0")) (d "0.01") 1 (Past First) ∷
+    row (Periods (d "0.5") (d "0")) (d "1") 1 (Taken 0 1) ∷
+    row (Periods (bits 0x3fdfffffffffffff) (d "0")) (d "1") 1 refused ∷
+    row (Periods (d "0.004") (d "0")) (d "0.01") 1 refused ∷
+    row (Periods (bits 0x40dfffdfffffffff) (d "0")) (d "1") 1 (Taken 0 32767) ∷
+    row (Periods (d "32767.5") (d "0")) (d "1") 1 refused ∷
+    row (Periods (d "327.68") (d "0")) (d "0.01") 1 refused ∷
     -- for speeds at the slow end, with the fast one in range
-    row (Speeds (d "3.0517578125") (d "100")) (d "0.01") 14 (Past First) ∷
-    row (Speeds (d "3.0517578125") (d "100")) (d "0.01") 1 (Past First) ∷
-    row (Speeds (d "3.052") (d "100")) (d "0.01") 14 (Words 2443 37651) ∷
-    row (Speeds (d "3.052") (d "100")) (d "0.01") 1 (Words 0 32765) ∷
+    row (Speeds (d "3.0517578125") (d "100")) (d "0.01") 14 refused ∷
+    row (Speeds (d "3.0517578125") (d "100")) (d "0.01") 1 refused ∷
+    row (Speeds (d "3.052") (d "100")) (d "0.01") 14 (Taken 2443 37651) ∷
+    row (Speeds (d "3.052") (d "100")) (d "0.01") 1 (Taken 0 32765) ∷
     -- at the fast end, with the slow one in range
-    row (Speeds (d "10000") (d "250000")) (d "0.01") 4 (Past Last) ∷
-    row (Speeds (d "10000") (d "250000")) (d "0.01") 1 (Past Last) ∷
-    row (Speeds (d "10000") (d "200000")) (d "0.01") 4 (Words 3 16) ∷
-    row (Speeds (d "10000") (d "200000")) (d "0.01") 1 (Words 0 10) ∷
+    row (Speeds (d "10000") (d "250000")) (d "0.01") 4 refused ∷
+    row (Speeds (d "10000") (d "250000")) (d "0.01") 1 refused ∷
+    row (Speeds (d "10000") (d "200000")) (d "0.01") 4 (Taken 3 16) ∷
+    row (Speeds (d "10000") (d "200000")) (d "0.01") 1 (Taken 0 10) ∷
     -- and at both
-    row (Speeds (d "1") (d "2")) (d "0.01") 14 (Past First) ∷
-    row (Speeds (d "1") (d "2")) (d "0.01") 1 (Past First) ∷
-    row (Speeds (d "250000") (d "300000")) (d "0.01") 14 (Past First) ∷
-    row (Speeds (d "250000") (d "300000")) (d "0.01") 1 (Past First) ∷
-    -- an infinite quotient: 1e300 over 1e-300; 1000 over the smallest number; a difference of 1e308 over 0.01
-    row (Periods (bits 0x7e37e43c8800759c) (d "0")) (bits 0x01a56e1fc2f8f359) 1 (Past First) ∷
-    row (Speeds (bits 0x0000000000000001) (d "30")) (d "0.01") 1 (Past First) ∷
-    row (Speeds (bits 0x0000000000000001) (bits 0x0000000000000001)) (d "0.01") 14 (Past First) ∷
-    row (Periods (d "4.0") (bits 0x7fe1ccf385ebc8a0)) (d "0.01") 1 (Past Step) ∷
+    row (Speeds (d "1") (d "2")) (d "0.01") 14 refused ∷
+    row (Speeds (d "1") (d "2")) (d "0.01") 1 refused ∷
+    row (Speeds (d "250000") (d "300000")) (d "0.01") 14 refused ∷
+    row (Speeds (d "250000") (d "300000")) (d "0.01") 1 refused ∷
+    -- an infinite quotient: 1e300 over 1e-300; 1000 over the smallest number; the difference of the former
+    row (Periods (bits 0x7e37e43c8800759c) (d "0")) (bits 0x01a56e1fc2f8f359) 1 refused ∷
+    row (Speeds (bits 0x0000000000000001) (d "30")) (d "0.01") 1 refused ∷
+    row (Speeds (bits 0x0000000000000001) (bits 0x0000000000000001)) (d "0.01") 14 refused ∷
+    row (Periods (d "4.0") (bits 0x7e37e43c8800759c)) (bits 0x01a56e1fc2f8f359) 1 refused ∷
     -- a difference count is at most $7FFF: with it STEP_CNTL1 is too large as well
-    row (Periods (d "327.67") (d "327.68")) (d "0.01") 1 (Past Step) ∷
-    row (Periods (d "0.01") (d "327.67")) (d "0.01") 1 (Words 32767 65535) ∷
+    row (Periods (d "327.67") (d "327.68")) (d "0.01") 1 refused ∷
+    row (Periods (d "0.01") (d "327.67")) (d "0.01") 1 (Taken 32767 65535) ∷
     -- STEP_CNTL1 is at most $FFFF
-    row (Periods (d "32767") (d "16384")) (d "1") 1 (Words 16384 65535) ∷
-    row (Periods (d "32767") (d "16385")) (d "1") 1 (Past Word) ∷
-    row (Periods (d "2") (d "32767")) (d "1") 1 (Past Word) ∷
-    row (Periods (d "1") (d "32767")) (d "1") 1 (Words 32767 65535) ∷
+    row (Periods (d "32767") (d "16384")) (d "1") 1 (Taken 16384 65535) ∷
+    row (Periods (d "32767") (d "16385")) (d "1") 1 refused ∷
+    row (Periods (d "2") (d "32767")) (d "1") 1 refused ∷
+    row (Periods (d "1") (d "32767")) (d "1") 1 (Taken 32767 65535) ∷
     -- question 8: P(N) is at least 1
-    row (Periods (d "41") (d "20")) (d "1") 3 (Words 20 81) ∷
-    row (Periods (d "40") (d "20")) (d "1") 3 (Past Steep) ∷
-    row (Periods (d "41") (d "20")) (d "1") 4 (Past Steep) ∷
+    row (Periods (d "41") (d "20")) (d "1") 3 (Taken 20 81) ∷
+    row (Periods (d "40") (d "20")) (d "1") 3 refused ∷
+    row (Periods (d "41") (d "20")) (d "1") 4 refused ∷
     -- rounding STEP_CNTL0 up can push P(N) below 1
-    row (Speeds (d "125") (d "1000")) (d "1") 14 (Past Steep) ∷
-    row (Speeds (d "125") (d "1000")) (d "1") 8 (Words 1 10) ∷
-    row (Speeds (d "125") (d "1000")) (d "1") 9 (Past Steep) ∷
-    -- where several limits are passed, the first is named
-    row (Periods (d "0") nan) (d "0") 0 (Past Rates) ∷
-    row (Periods (d "0") nan) (d "0") 1 (Past Tick) ∷
-    row (Periods (d "0") nan) (d "0.01") 1 (Past Slowest) ∷
-    row (Speeds (d "250000") (d "0")) (d "0.01") 1 (Past Fastest) ∷
-    row (Speeds (d "250000") (d "200000")) (d "0.01") 1 (Past Order) ∷
-    row (Periods (d "0.004") (d "327.68")) (d "0.01") 1 (Past First) ∷
-    row (Periods (d "300") (d "300")) (d "0.01") 14 (Past Word) ∷
+    row (Speeds (d "125") (d "1000")) (d "1") 14 refused ∷
+    row (Speeds (d "125") (d "1000")) (d "1") 8 (Taken 1 10) ∷
+    row (Speeds (d "125") (d "1000")) (d "1") 9 refused ∷
     -- halves go up, in a count and in STEP_CNTL0
-    row (Periods (d "2.5") (d "0.5")) (d "1") 2 (Words 1 5) ∷
-    row (Periods (bits 0x4003ffffffffffff) (bits 0x3fdfffffffffffff)) (d "1") 2 (Words 0 2) ∷
-    row (Periods (d "3.5") (d "1.5")) (d "1") 2 (Words 2 8) ∷
-    row (Speeds (d "250") (bits 0x4074d55555555555)) (d "1") 3 (Words 1 6) ∷
-    row (Speeds (d "100") (d "125")) (d "1") 5 (Words 1 12) ∷
-    row (Speeds (d "100") (d "125")) (d "1") 4 (Words 1 12) ∷
-    row (Speeds (d "100") (d "125")) (d "1") 6 (Words 0 10) ∷
+    row (Periods (d "2.5") (d "0.5")) (d "1") 2 (Taken 1 5) ∷
+    row (Periods (bits 0x4003ffffffffffff) (bits 0x3fdfffffffffffff)) (d "1") 2 (Taken 0 2) ∷
+    row (Periods (d "3.5") (d "1.5")) (d "1") 2 (Taken 2 8) ∷
+    row (Speeds (d "250") (bits 0x4074d55555555555)) (d "1") 3 (Taken 1 6) ∷
+    row (Speeds (d "100") (d "125")) (d "1") 5 (Taken 1 12) ∷
+    row (Speeds (d "100") (d "125")) (d "1") 4 (Taken 1 12) ∷
+    row (Speeds (d "100") (d "125")) (d "1") 6 (Taken 0 10) ∷
     -- 1000 is divided by the speed first: over the product of both it would be 1562, over the tick first 312
-    row (Speeds (d "6.4") (d "6.4")) (d "0.1") 1 (Words 0 1563) ∷
-    row (Speeds (d "625") (d "625")) (d "0.00512") 1 (Words 0 313) ∷
+    row (Speeds (d "6.4") (d "6.4")) (d "0.1") 1 (Taken 0 1563) ∷
+    row (Speeds (d "625") (d "625")) (d "0.00512") 1 (Taken 0 313) ∷
     []
 
 abbrev pub SheetsRight : Type 0

@@ -55,10 +55,10 @@ fn ask_ramp(s: &[u16], c: u16) -> Answer
     let cntl1 = fields::cntl1(s, c);
     let n = fields::top(s, c);
     let target = cells::word(s, c, 3);
-    if !periods::ramp_good(cntl0, cntl1, n) {
+    if !questions::ramp_good(cntl0, cntl1, n) {
         return Answer::Refused(8);
     }
-    if !periods::quick_good(cntl0, cntl1, n) {
+    if !questions::quick_good(cntl0, cntl1, n) {
         return Answer::Refused(14);
     }
     if !questions::target_good(s, c, target) {

@@ -1,11 +1,10 @@
 // Where the settings stand, in the unit and in a block.
-ghost use Rattle.std.specs.Prelude.{◌≡◌, length};
+ghost use Rattle.std.specs.Prelude.{◌≡◌};
 ghost use Rattle.blocks.specs.Blocks.{laid};
 ghost use Rattle.keeping.specs.Layout.{setting_address, setting, held_word, block_word};
-ghost use Rattle.pack.specs.Packing.{state_words, state_in};
 
 use keeping::{FIRST, LAYOUT, SETTINGS};
-use unit::Reading;
+use unit::{Reading, State};
 
 // Six words each of channels 0 to 13, the sixteen of 14 and 15, CFSR, CPR.
 pub fn address(n: u8) -> u16
@@ -25,11 +24,10 @@ pub fn address(n: u8) -> u16
 }
 
 // As the host would read it.
-fn setting(s: &[u16], n: u8) -> u16
-    requires { length s.now ≡ state_words }
-    ensures { result ≡ setting (state_in s.now) n }
+fn setting(s: State, n: u8) -> u16
+    ensures { result ≡ setting s n }
 {
-    let r = deeds::read(s, address(n));
+    let r = tpu::read(s, address(n));
     match r {
         Reading::Word(w) => w,
         Reading::Refused(_) => 0,
@@ -37,9 +35,8 @@ fn setting(s: &[u16], n: u8) -> u16
 }
 
 // Word i of a block, but the last.
-fn held(s: &[u16], version: u32, i: u8) -> u16
-    requires { length s.now ≡ state_words }
-    ensures { result ≡ held_word (state_in s.now) version i }
+fn held(s: State, version: u32, i: u8) -> u16
+    ensures { result ≡ held_word s version i }
 {
     if i == 0 {
         return LAYOUT;
@@ -57,9 +54,8 @@ fn held(s: &[u16], version: u32, i: u8) -> u16
 }
 
 // The whole block k, its last word from the sum of the others.
-pub fn lay(store: &mut [u8], k: u8, s: &[u16], version: u32)
-    requires { length s.now ≡ state_words }
-    ensures { store.new ≡ laid (block_word (state_in s.now) version) store.old k 256 }
+pub fn lay(store: &mut [u8], k: u8, s: State, version: u32)
+    ensures { store.new ≡ laid (block_word s version) store.old k 256 }
 {
     let mut total: u16 = 0;
     for i in 0..255 {

@@ -9,6 +9,7 @@ use mathlib.Core.Path.{◌≡◌, refl, ◌∙◌}
 use borrow.Author.Tests.{lt-ltb}
 use Rattle.words.proofs.ChoiceLaws.{holds, fails, and_left, and_right, tests}
 use Rattle.unit.specs.declared.State.{State}
+use Rattle.unit.specs.declared.Answered.{Answered}
 use Rattle.unit.specs.TheUnit.{all}
 use Rattle.unit.specs.Gate.{is_free}
 use Rattle.unit.specs.Calls.{write_of, after, run}
@@ -17,9 +18,9 @@ use Rattle.blocks.proofs.WordLaws.{count-store, no_store}
 use Rattle.keeping.specs.declared.Kept.{Kept}
 use Rattle.keeping.specs.declared.Kept.TheVariants.{Taken, Refused}
 use Rattle.keeping.specs.declared.Which.{Which}
+use Rattle.keeping.specs.declared.Loaded.{Loaded}
 use Rattle.keeping.specs.Layout.{setting_address, block_word, setting_writes}
 use Rattle.keeping.specs.Keeping.{number_of, version_of, greatest, place_of, may_save, save_of, save_number, save_version, store_after, chosen, load_of, load_number, load_version}
-use Rattle.pack.specs.Packing.{Holds}
 use Rattle.keeping.proofs.LayoutLaws.{run-append}
 use Rattle.keeping.proofs.KeepingLaws.{save-numbers, load-numbers}
 
@@ -71,17 +72,15 @@ saves-next s b t n g k e z f m l p q =
 -- ---- a load
 
 -- one setting more is written
-pub written_next : (start was next : State) (b : List ℕ) (k n a v : ℕ) → was ≡ run start (setting_writes b k n)
-    → next ≡ (write_of was a v).state → a ≡ setting_address n → v ≡ word_in b k (3 + n) → next ≡ run start (setting_writes b k (n + 1))
+pub written_next : (start was : State) (r : Answered) (b : List ℕ) (k n a v : ℕ) → was ≡ run start (setting_writes b k n)
+    → r ≡ write_of was a v → a ≡ setting_address n → v ≡ word_in b k (3 + n) → r.state ≡ run start (setting_writes b k (n + 1))
 unfolding setting_writes after run
-written_next start was next b k n a v e f g h = rw (add-one, run-append start (setting_writes b k n) (_ ∷ []), f, g, h, e)
+written_next start was r b k n a v e f g h = rw (add-one, run-append start (setting_writes b k n) (_ ∷ []), f, g, h, e)
 
--- what the contract of a load on words says of its answer r and of the words t after it
-abbrev pub LoadedIn : State → Which → List ℕ → Kept → List ℕ → Type 0
-LoadedIn s w b r t =
-    (r ≡ (load_of s w b).answer) × Holds t (load_of s w b).state
-    × (number_of r ≡ load_number s (chosen b w)) × (version_of r ≡ load_version s b (chosen b w))
+-- what its contract says of its answer r
+abbrev pub LoadedBy : State → Which → List ℕ → Loaded → Type 0
+LoadedBy s w b r =
+    (r ≡ load_of s w b) × (number_of r.answer ≡ load_number s (chosen b w)) × (version_of r.answer ≡ load_version s b (chosen b w))
 
-pub loaded-in : (s : State) (w : Which) (b : List ℕ) (r : Kept) (t : List ℕ)
-    → r ≡ (load_of s w b).answer → Holds t (load_of s w b).state → LoadedIn s w b r t
-loaded-in s w b r t e h = let n = load-numbers s w b (load_of s w b) refl in (e, h, rw e n.0, rw e n.1)
+pub loaded : (s : State) (w : Which) (b : List ℕ) (r : Loaded) → r ≡ load_of s w b → LoadedBy s w b r
+loaded s w b r e = let n = load-numbers s w b r e in (e, n.0, n.1)

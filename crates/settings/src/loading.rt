@@ -1,14 +1,14 @@
 // Which block is loaded, and its writes.
-ghost use Rattle.std.specs.Prelude.{◌≡◌, length};
+ghost use Rattle.std.specs.Prelude.{◌≡◌};
 ghost use Rattle.unit.specs.Calls.{run};
 ghost use Rattle.keeping.specs.Layout.{load_calls};
 ghost use Rattle.keeping.specs.Keeping.{sought, chosen, all_free, load_from};
 ghost use Rattle.keeping.specs.declared.Chosen.TheVariants.{Block};
-ghost use Rattle.pack.specs.Packing.{state_words, state_in, Holds};
 
 use blocks::{Found, Search};
-use keeping::{Chosen, FIRST, Kept, LAYOUT, SETTINGS, Which};
+use keeping::{Chosen, FIRST, Kept, LAYOUT, Loaded, SETTINGS, Which};
 use saving::layout;
+use unit::State;
 
 fn sought(which: Which) -> Search
     ensures { result ≡ sought which }
@@ -33,35 +33,43 @@ pub fn chosen(store: &[u8], which: Which) -> Chosen
     Chosen::Block(k)
 }
 
-fn all_free(s: &[u16]) -> bool
-    requires { length s.now ≡ state_words }
-    ensures { result ≡ all_free (state_in s.now) }
+fn all_free(s: State) -> bool
+    ensures { result ≡ all_free s }
 {
+    let mut w = [0u16; pack::layout::WORDS];
+    pack::pack(s, &mut w);
     let mut free = true;
     for c in 0..16 {
-        free = free & binding::is_free(s, c);
+        free = free & binding::is_free(&w, c);
     }
     free
 }
 
 // One ordinary write after another, in the order of the block.
-fn played(s: &mut [u16], store: &[u8], k: u8)
-    requires { length s.old ≡ state_words }
-    ensures { Holds s.new (run (state_in s.old) (load_calls store.now k)) }
+fn played(mut s: State, store: &[u8], k: u8) -> State
+    ensures { result ≡ run s (load_calls store.now k) }
 {
     for n in 0..SETTINGS {
-        deeds::write(s, layout::address(n), blocks::word(store, k, FIRST + n));
+        let written = tpu::write(s, layout::address(n), blocks::word(store, k, FIRST + n));
+        let next = written.state;
+        s = next;
     }
+    s
 }
 
-pub fn from(s: &mut [u16], store: &[u8], k: u8) -> Kept
-    requires { length s.old ≡ state_words }
-    ensures { (result ≡ (load_from (state_in s.old) store.now (Block k)).answer)
-        × Holds s.new (load_from (state_in s.old) store.now (Block k)).state }
+pub fn from(s: State, store: &[u8], k: u8) -> Loaded
+    ensures { result ≡ load_from s store.now (Block k) }
 {
     if !all_free(s) {
-        return Kept::Refused(2);
+        return Loaded {
+            answer: Kept::Refused(2),
+            state: s,
+        };
     }
-    played(s, store, k);
-    Kept::Taken(blocks::version(store, k))
+    let version = blocks::version(store, k);
+    let next = played(s, store, k);
+    Loaded {
+        answer: Kept::Taken(version),
+        state: next,
+    }
 }

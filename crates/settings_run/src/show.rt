@@ -1,6 +1,7 @@
 // What the settings run prints, on standard output.
 ghost use Rattle.std.specs.Prelude.{◌<◌};
 
+use keeping::Kept;
 use libc::STDOUT_FILENO;
 
 // The bytes of a store are printed in rows of 32, and a block has 16 rows.
@@ -12,11 +13,20 @@ pub fn text(t: &[u8]) {
     io::write_all(STDOUT_FILENO, t);
 }
 
-// How many bytes of a file are lent.
-pub fn lent(length: u64) {
-    text(b"F ");
-    io::print_decimal(STDOUT_FILENO, length);
+// A letter and a number.
+pub fn number(letter: &[u8], n: u64) {
+    text(letter);
+    text(b" ");
+    io::print_decimal(STDOUT_FILENO, n);
     text(b"\n");
+}
+
+// The version after the call's letter, or the number of the no.
+pub fn kept(letter: &[u8], k: Kept) {
+    match k {
+        Kept::Taken(version) => number(letter, version as u64),
+        Kept::Refused(n) => number(b"N", n as u64),
+    }
 }
 
 // Each row of a store that is not as it was before.

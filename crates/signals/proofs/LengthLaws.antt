@@ -1,50 +1,68 @@
 -- How long the printed values are.
-use Prim.Native.Nat.{ℕ, zero, suc, ◌+◌, ◌*◌, ◌≤◌}
-use mathlib.Core.Bool.{Bool}
+use Prim.Native.Nat.{ℕ, zero, suc, ◌+◌, ◌-◌, ◌*◌, ◌≤◌}
+use mathlib.Core.Bool.{Bool, true, false}
+use mathlib.Core.List.{List}
 use native.Mathlib.Omega.{arith}
+use lib.Dec.{ltb}
 use lib.ListN.{length, length-append}
-use Rattle.words.specs.Field.{bit_value}
+use Rattle.words.specs.Field.{bit_of, bit_value}
+use Rattle.words.proofs.ChoiceLaws.{pick-cases}
 use Rattle.unit.specs.declared.State.{State}
-use Rattle.unit.specs.TheUnit.{interrupt_line, pin, status}
-use Rattle.value_lines.specs.ValueLines.{value_line}
-use Rattle.value_lines.proofs.LengthLaws.{wire-short, vector-short}
-use Rattle.signals.specs.declared.Row.{Row}
-use Rattle.signals.specs.declared.Row.TheVariants.{Pin, Status, Position, Target, Rate}
-use Rattle.signals.specs.Signals.{width_of, first_of, value_of, row_values, motor_values, values}
+use Rattle.unit.specs.TheUnit.{interrupt_line}
+use Rattle.text.specs.Ascii.{ascii}
+use Rattle.text.specs.Printing.{decimal}
+use Rattle.text.proofs.LengthLaws.{decimal-short}
+use Rattle.signals.specs.Signals.{position_of, binary, vector, wire_line, vector_line, is_wanted, wire_value, vector_value, pin_values, position_values, values}
 
--- the bytes of a line of the row
-line_of : Row → ℕ
-line_of Pin = 3
-line_of Status = 3
-line_of Position = 20
-line_of Target = 20
-line_of Rate = 8
+-- ---- one signal
 
-line-short :
-    (row : Row) (all : Bool) (old s : State) (c : ℕ) →
-    length (value_line (width_of row) (first_of row + c) all (value_of row old c) (value_of row s c)) ≤ line_of row
-unfolding width_of value_of line_of
-line-short Pin all old s c = wire-short _ all _ (pin s c)
-line-short Status all old s c = wire-short _ all _ (status s c)
-line-short Position all old s c = vector-short 16 _ all _ _ (omega arith)
-line-short Target all old s c = vector-short 16 _ all _ _ (omega arith)
-line-short Rate all old s c = vector-short 4 _ all _ _ (omega arith)
+one_bit : (on : Bool) → bit_value on ≤ 1
+one_bit true = omega arith
+one_bit false = omega arith
 
-row-short : (n : ℕ) (row : Row) (all : Bool) (old s : State) → length (row_values n row all old s) ≤ n * line_of row
-unfolding row_values
-row-short zero row all old s = omega arith
-row-short (suc c) row all old s =
-    let d = line-short row all old s c in
-    rw length-append (omega (arith, row-short c row all old s))
+level-short : (on : Bool) → length (decimal (bit_value on)) ≤ 1
+level-short on = decimal-short.0 0 (bit_value on) (omega (arith, one_bit on))
 
-pub values-short : (all : Bool) (old s : State) → length (values all old s) ≤ 887
-unfolding values motor_values line_of
+wire-short : (all on : Bool) (old id : ℕ) → length (wire_value all old (bit_value on) id) ≤ 3
+unfolding wire_value wire_line
+wire-short all on old id =
+    let d = level-short on in
+    pick-cases (λ (l : List ℕ). length l ≤ 3) (is_wanted all old (bit_value on)) (λ t. rw length-append (omega arith)) (λ t. omega arith)
+
+binary-short : (n w : ℕ) → length (binary n w) ≤ n
+unfolding binary
+binary-short zero w = omega arith
+binary-short (suc n) w =
+    let d = level-short (bit_of w (15 - n)) in
+    rw length-append (omega (arith, binary-short n w))
+
+vector-short : (all : Bool) (old v id : ℕ) → length (vector_value all old v id) ≤ 20
+unfolding vector_value vector_line vector ascii
+vector-short all old v id =
+    let d : length (vector v) ≤ 17 = pick-cases (λ (l : List ℕ). length l ≤ 17) (ltb v 65536) (λ t. omega (arith, binary-short 16 v)) (λ t. omega arith) in
+    pick-cases (λ (l : List ℕ). length l ≤ 20) (is_wanted all old v) (λ t. rw length-append (omega arith)) (λ t. omega arith)
+
+-- ---- all of them
+
+pins-short : (n : ℕ) (all : Bool) (old w : ℕ) → length (pin_values n all old w) ≤ n * 3
+unfolding pin_values
+pins-short zero all old w = omega arith
+pins-short (suc c) all old w =
+    let d = wire-short all (bit_of w c) (bit_value (bit_of old c)) (97 + c) in
+    rw length-append (omega (arith, pins-short c all old w))
+
+positions-short : (n : ℕ) (all : Bool) (old s : State) → length (position_values n all old s) ≤ n * 20
+unfolding position_values
+positions-short zero all old s = omega arith
+positions-short (suc c) all old s =
+    let d = vector-short all (position_of old c) (position_of s c) (65 + c) in
+    rw length-append (omega (arith, positions-short c all old s))
+
+pub values-short : (all : Bool) (old s : State) → length (values all old s) ≤ 391
+unfolding values
 values-short all old s =
-    let p = row-short 16 Pin all old s in
-    let t = vector-short 16 113 all old.timers.tcr1 s.timers.tcr1 (omega arith) in
-    let a = row-short 16 Position all old s in
-    let b = row-short 16 Target all old s in
-    let r = row-short 16 Rate all old s in
-    let q = row-short 16 Status all old s in
-    let l = wire-short 114 all (bit_value (interrupt_line old)) (interrupt_line s) in
+    let p = pins-short 16 all old.pins s.pins in
+    let t = vector-short all old.timers.tcr1 s.timers.tcr1 33 in
+    let q = positions-short 16 all old s in
+    let l = wire-short all (interrupt_line s) (bit_value (interrupt_line old)) 34 in
     simp length-append (omega arith)

@@ -1,62 +1,64 @@
--- What is shown of a state: five rows of signals, one for each channel, and TCR1 and the interrupt line. Each signal has one character
--- for its name, those of a row one after the other.
-use Rattle.std.specs.Prelude.{ℕ, zero, suc, ◌+◌, Bool, List, [], ◌++◌}
+-- What is shown of a state: the pins, TCR1, the position of each bound primary and the interrupt line. Each signal has a value and
+-- one character for its name: `a` to `p` (97 on) the pins, `!` (33) TCR1, `A` to `P` (65 on) the positions, `"` (34) the line.
+use Rattle.std.specs.Prelude.{ℕ, zero, suc, ◌+◌, ◌-◌, Bool, not, ◌||◌, List, [], ◌∷◌, ◌++◌, ltb, eqb}
 use Rattle.words.specs.Choice.{pick}
-use Rattle.words.specs.Field.{bit_value}
+use Rattle.words.specs.Field.{bit_of, bit_value}
 use Rattle.unit.specs.declared.State.{State}
-use Rattle.unit.specs.TheUnit.{interrupt_line, stepping, pin, status, position, target, next_rate}
-use Rattle.value_lines.specs.ValueLines.{value_line}
-use Rattle.signals.specs.declared.Row.{Row}
-use Rattle.signals.specs.declared.Row.TheVariants.{Pin, Status, Position, Target, Rate}
+use Rattle.unit.specs.TheUnit.{interrupt_line, stepping, position}
+use Rattle.text.specs.Ascii.{ascii}
+use Rattle.text.specs.Printing.{decimal}
 
--- ---- the rows
+-- the position while c is a bound primary; 65,536, which no position is, stands for none
+unfoldable pub position_of : State → ℕ → ℕ
+position_of s c = pick (stepping s c) (position s c) 65536
 
--- how many bits a signal of the row has
-unfoldable pub width_of : Row → ℕ
-width_of Pin = 1
-width_of Status = 1
-width_of Position = 16
-width_of Target = 16
-width_of Rate = 4
+-- ---- how a value is printed
 
--- the character of channel 0: the pins are `a` to `p`, the status bits `!` to `0`, positions `A` to `P`, targets `Q` to a grave accent,
--- rates `1` to `@`
-unfoldable pub first_of : Row → ℕ
-first_of Pin = 97
-first_of Status = 33
-first_of Position = 65
-first_of Target = 81
-first_of Rate = 49
+-- the highest n of the sixteen binary digits of a word
+unfoldable pub binary : ℕ → ℕ → List ℕ
+binary zero w = []
+binary (suc n) w = binary n w ++ decimal (bit_value (bit_of w (15 - n)))
 
--- a number that says something while c is a bound primary; 65,536 stands for none
-unfoldable pub while_bound : State → ℕ → ℕ → ℕ
-while_bound s c v = pick (stepping s c) v 65536
+-- a word, or `x` where there is none
+unfoldable pub vector : ℕ → List ℕ
+vector v = pick (ltb v 65536) (ascii "b" ++ binary 16 v) (ascii "bx")
 
--- the value of channel c
-unfoldable pub value_of : Row → State → ℕ → ℕ
-value_of Pin s c = bit_value (pin s c)
-value_of Status s c = bit_value (status s c)
-value_of Position s c = while_bound s c (position s c)
-value_of Target s c = while_bound s c (target s c)
-value_of Rate s c = while_bound s c (next_rate s c)
+-- a wire's value, 0 or 1, and its character
+unfoldable pub wire_line : ℕ → ℕ → List ℕ
+wire_line v id = decimal v ++ (id ∷ 10 ∷ [])
+
+-- a vector's value, a space (32) and its character
+unfoldable pub vector_line : ℕ → ℕ → List ℕ
+vector_line v id = vector v ++ (32 ∷ id ∷ 10 ∷ [])
 
 -- ---- what is printed: all values, or those that differ from the ones before
 
--- the first n channels of a row
-unfoldable pub row_values : ℕ → Row → Bool → State → State → List ℕ
-row_values zero row all old s = []
-row_values (suc c) row all old s =
-    row_values c row all old s ++ value_line (width_of row) (first_of row + c) all (value_of row old c) (value_of row s c)
+-- a value is printed where all are, or where it is not the old one
+unfoldable pub is_wanted : Bool → ℕ → ℕ → Bool
+is_wanted all old v = all || not (eqb old v)
 
--- what each motor shows while it is under way
-unfoldable pub motor_values : Bool → State → State → List ℕ
-motor_values all old s = row_values 16 Position all old s ++ (row_values 16 Target all old s ++ row_values 16 Rate all old s)
+-- a wire's line, or nothing
+unfoldable pub wire_value : Bool → ℕ → ℕ → ℕ → List ℕ
+wire_value all old v id = pick (is_wanted all old v) (wire_line v id) []
 
--- all of a state, after an old one; TCR1 is `q` (113), the interrupt line `r` (114)
+-- a vector's line, or nothing
+unfoldable pub vector_value : Bool → ℕ → ℕ → ℕ → List ℕ
+vector_value all old v id = pick (is_wanted all old v) (vector_line v id) []
+
+-- the first n pins
+unfoldable pub pin_values : ℕ → Bool → ℕ → ℕ → List ℕ
+pin_values zero all old w = []
+pin_values (suc c) all old w = pin_values c all old w ++ wire_value all (bit_value (bit_of old c)) (bit_value (bit_of w c)) (97 + c)
+
+-- the positions of the first n channels
+unfoldable pub position_values : ℕ → Bool → State → State → List ℕ
+position_values zero all old s = []
+position_values (suc c) all old s = position_values c all old s ++ vector_value all (position_of old c) (position_of s c) (65 + c)
+
+-- the pins, TCR1, the positions and the interrupt line of a state, after an old one
 unfoldable pub values : Bool → State → State → List ℕ
 values all old s =
-    row_values 16 Pin all old s
-    ++ (value_line 16 113 all old.timers.tcr1 s.timers.tcr1
-    ++ (motor_values all old s
-    ++ (row_values 16 Status all old s
-    ++ value_line 1 114 all (bit_value (interrupt_line old)) (bit_value (interrupt_line s)))))
+    pin_values 16 all old.pins s.pins
+    ++ (vector_value all old.timers.tcr1 s.timers.tcr1 33
+    ++ (position_values 16 all old s
+    ++ wire_value all (bit_value (interrupt_line old)) (bit_value (interrupt_line s)) 34))

@@ -1,33 +1,83 @@
-// The ramp program: lines from standard input, their replies to standard output. Paper 02, #101.
-use streams::Place;
+// The ramp program: lines from standard input, their replies to standard output, block by block. Paper 02, #101.
+ghost use Rattle.std.specs.Prelude.{◌≡◌, ◌≤◌, length};
 
-// So many of the longest replies that the output is written seldom.
-const ROOM: usize = 4096 * ramp_lines::MAX_REPLY;
+use libc::{STDIN_FILENO, STDOUT_FILENO};
+
+// Each byte of a block may end a line, and the replies to all of them fit.
+const BLOCK: usize = 4096;
+
+const ROOM: usize = BLOCK * ramp_lines::MAX_REPLY;
+
+// How much of the line so far is kept, and how much of the output stands ready.
+#[derive(Drop)]
+struct Session {
+    kept: usize,
+    ready: usize,
+}
 
 // Of a line 64 bytes are kept, which are answered as the whole line is: `CutSame` of ramp_lines.
 fn main() {
-    if !streams::is_started_with(1, b"usage: tpu_ramp <sheets >answers\n") {
-        return;
-    }
-    let mut input = [0u8; 65536];
+    let mut input = [0u8; BLOCK];
     let mut line = [0u8; 64];
     let mut out = [0u8; ROOM];
-    lines_done(&mut input, &mut line, &mut out);
+    blocks_done(&mut input, &mut line, &mut out);
 }
 
-// Each line gets its reply, put behind those that wait. The loop counts down as that of `streams::next` does, and for the same reason.
-fn lines_done(input: &mut [u8], line: &mut [u8], out: &mut [u8]) {
-    let mut p = Place::START;
-    let mut lines = u64::MAX;
-    while lines > 0 {
-        p = streams::next(b"tpu_ramp", p, ramp_lines::MAX_REPLY, input, line, out);
-        if !p.whole {
+// To the end of the input, or until the output fails. A proved loop has to end, and nothing says that the input does: it counts down
+// from a number that no run uses up.
+fn blocks_done(input: &mut [u8], line: &mut [u8], out: &mut [u8]) {
+    let mut kept = 0;
+    let mut blocks = u64::MAX;
+    while blocks > 0 {
+        let got = libc::read(STDIN_FILENO, input);
+        let n = io::count(got, input);
+        let s = block_done(kept, &input[..n], line, out);
+        kept = s.kept;
+        let ready = s.ready;
+        if !io::write_all(STDOUT_FILENO, &out[..ready]) {
             return;
         }
-        let kept = p.kept;
-        let waiting = p.waiting;
-        let more = ramp_lines::reply(&line[..kept], &mut out[waiting..]);
-        p.waiting = waiting + more;
-        lines -= 1;
+        if n == 0 {
+            return;
+        }
+        blocks -= 1;
+    }
+}
+
+// The replies to the lines that end in a block. Where it is empty the input has ended, and with it a line that has begun.
+fn block_done(kept: usize, block: &[u8], line: &mut [u8], out: &mut [u8]) -> Session
+    requires { kept ≤ length line.old }
+    ensures { (result.kept ≤ length line.old) × (result.ready ≤ length out.old) }
+{
+    let mut s = Session { kept, ready: 0 };
+    if block.len() == 0 {
+        if 0 < kept {
+            return line_done(s, line, out);
+        }
+    }
+    let mut at = 0;
+    while at < block.len() {
+        let end = text::find(block, at, b'\n');
+        s.kept = text::bytes(line, s.kept, &block[at..end]);
+        if block.len() <= end {
+            return s;
+        }
+        at = end + 1;
+        s = line_done(s, line, out);
+    }
+    s
+}
+
+// The reply to the line that is kept goes behind what stands ready.
+fn line_done(s: Session, line: &[u8], out: &mut [u8]) -> Session
+    requires { (s.kept ≤ length line.now) × (s.ready ≤ length out.old) }
+    ensures { (result.kept ≡ 0) × (result.ready ≤ length out.old) }
+{
+    let kept = s.kept;
+    let ready = s.ready;
+    let more = ramp_lines::reply(&line[..kept], &mut out[ready..]);
+    Session {
+        kept: 0,
+        ready: ready + more,
     }
 }

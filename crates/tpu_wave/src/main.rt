@@ -1,63 +1,128 @@
-// The waveform program: a script from standard input, what it does as a value change dump to standard output.
-ghost use Rattle.std.specs.Prelude.{◌≤◌, length};
+// The waveform program: a script from standard input, what it does as a value change dump to standard output, both in blocks.
+ghost use Rattle.std.specs.Prelude.{◌≡◌, ◌≤◌, length};
 
-use streams::Place;
+use libc::{STDIN_FILENO, STDOUT_FILENO};
 use unit::State;
 
 // The longest drawing, and room for short ones that wait, so that the output is written seldom.
 const ROOM: usize = drawing::MAX_DRAWN + 65536;
 
-// The state and the one that was drawn last, the ticks since reset, and how much of the output waits to be written.
+// Where the program stands between two bytes of input.
 #[derive(Drop)]
 struct Session {
     state: State,
+    // the state that was drawn last
     seen: State,
     ticks: u64,
+    // how much of the line so far is kept, and how much of the output is not written yet
+    kept: usize,
     waiting: usize,
+    // the input has not ended, nor has the output failed
+    open: bool,
 }
 
 // Of a line 16 bytes are kept: no form has as many, so what follows them does not matter (`CutSame` of drawing).
 fn main() {
-    if !streams::is_started_with(1, b"usage: tpu_wave <script >wave.vcd\n") {
-        return;
-    }
     let mut input = [0u8; 65536];
     let mut line = [0u8; 16];
     let mut out = [0u8; ROOM];
-    lines_done(&mut input, &mut line, &mut out);
+    blocks_done(&mut input, &mut line, &mut out);
 }
 
-// The header, and then what each line draws. The loop counts down as that of `streams::next` does, and for the same reason.
-fn lines_done(input: &mut [u8], line: &mut [u8], out: &mut [u8]) {
-    let mut s = Session {
-        state: State::RESET,
-        seen: State::RESET,
-        ticks: 0,
-        waiting: 0,
-    };
-    let mut p = Place::START;
-    p.waiting = wave::header(out);
-    let mut lines = u64::MAX;
-    while lines > 0 {
-        p = streams::next(b"tpu_wave", p, drawing::MAX_DRAWN, input, line, out);
-        if !p.whole {
+// The header, and then block by block to the end of the input. A proved loop has to end, and nothing says that the input does: it
+// counts down from a number that no run uses up.
+fn blocks_done(input: &mut [u8], line: &mut [u8], out: &mut [u8]) {
+    let mut s = begun(out);
+    let mut blocks = u64::MAX;
+    while blocks > 0 {
+        s = block_done(s, input, line, out);
+        if !s.open {
             return;
         }
-        let kept = p.kept;
-        s.waiting = p.waiting;
-        s = drawn(s, &line[..kept], out);
-        p.waiting = s.waiting;
-        lines -= 1;
+        blocks -= 1;
     }
 }
 
-// What a line draws goes behind what waits.
-fn drawn(s: Session, line: &[u8], out: &mut [u8]) -> Session
-    requires { s.waiting ≤ length out.old }
-    ensures { result.waiting ≤ length out.old }
+fn begun(out: &mut [u8]) -> Session
+    ensures { (result.kept ≡ 0) × (result.waiting ≡ 0) }
 {
+    let s = Session {
+        state: State::RESET,
+        seen: State::RESET,
+        ticks: 0,
+        kept: 0,
+        waiting: wave::header(out),
+        open: true,
+    };
+    written(s, out)
+}
+
+// The lines of a block, and then the output is written: someone may wait for it before the next block.
+fn block_done(s: Session, input: &mut [u8], line: &mut [u8], out: &mut [u8]) -> Session
+    requires { (s.kept ≤ length line.old) × (s.waiting ≤ length out.old) }
+    ensures { (result.kept ≤ length line.old) × (result.waiting ≤ length out.old) }
+{
+    let got = libc::read(STDIN_FILENO, input);
+    let n = io::count(got, input);
+    if n == 0 {
+        return last_line(s, line, out);
+    }
+    let t = lines_done(s, &input[..n], line, out);
+    written(t, out)
+}
+
+// What follows the last end of a line is a line, unless it is empty.
+fn last_line(s: Session, line: &[u8], out: &mut [u8]) -> Session
+    requires { (s.kept ≤ length line.now) × (s.waiting ≤ length out.old) }
+    ensures { (result.kept ≤ length line.now) × (result.waiting ≤ length out.old) }
+{
+    let mut t = s;
+    if 0 < s.kept {
+        t = line_done(s, line, out);
+        t = written(t, out);
+    }
+    t.open = false;
+    t
+}
+
+// What stands up to a line feed, or to the end of the block, is kept, as far as there is room; a line feed ends the line.
+fn lines_done(s: Session, block: &[u8], line: &mut [u8], out: &mut [u8]) -> Session
+    requires { (s.kept ≤ length line.old) × (s.waiting ≤ length out.old) }
+    ensures { (result.kept ≤ length line.old) × (result.waiting ≤ length out.old) }
+{
+    let mut t = s;
+    let mut at = 0;
+    while at < block.len() {
+        let end = text::find(block, at, b'\n');
+        t.kept = text::bytes(line, t.kept, &block[at..end]);
+        if block.len() <= end {
+            return t;
+        }
+        at = end + 1;
+        t = line_done(t, line, out);
+    }
+    t
+}
+
+// What the line that is kept draws goes behind what waits; where it might not fit, that is written first.
+fn line_done(s: Session, line: &[u8], out: &mut [u8]) -> Session
+    requires { (s.kept ≤ length line.now) × (s.waiting ≤ length out.old) }
+    ensures { (result.kept ≡ 0) × (result.waiting ≤ length out.old) }
+{
+    if out.len() - s.waiting < drawing::MAX_DRAWN {
+        let t = written(s, out);
+        return drawn(t, line, out);
+    }
+    drawn(s, line, out)
+}
+
+fn drawn(s: Session, line: &[u8], out: &mut [u8]) -> Session
+    requires { (s.kept ≤ length line.now) × (s.waiting ≤ length out.old) }
+    ensures { (result.kept ≡ 0) × (result.waiting ≤ length out.old) }
+{
+    let kept = s.kept;
     let waiting = s.waiting;
-    let r = drawing::draw(s.seen, s.state, s.ticks, line, &mut out[waiting..]);
+    let r = drawing::draw(s.seen, s.state, s.ticks, &line[..kept], &mut out[waiting..]);
     let filled = waiting + r.length;
     let state = r.state;
     let seen = r.seen;
@@ -65,6 +130,22 @@ fn drawn(s: Session, line: &[u8], out: &mut [u8]) -> Session
         state,
         seen,
         ticks: r.ticks,
+        kept: 0,
         waiting: filled,
+        open: s.open,
     }
+}
+
+// What waits is written, and nothing more once that has failed.
+fn written(s: Session, out: &[u8]) -> Session
+    requires { s.waiting ≤ length out.now }
+    ensures { (result.kept ≡ s.kept) × (result.waiting ≡ 0) }
+{
+    let waiting = s.waiting;
+    let mut t = s;
+    t.waiting = 0;
+    if t.open {
+        t.open = io::write_all(STDOUT_FILENO, &out[..waiting]);
+    }
+    t
 }

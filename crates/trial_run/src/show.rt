@@ -6,7 +6,7 @@ pub fn text(t: &[u8]) {
     io::write_all(STDOUT_FILENO, t);
 }
 
-fn decimal(n: u16) {
+pub fn decimal(n: u16) {
     io::print_decimal(STDOUT_FILENO, n as u64);
 }
 

@@ -6,4 +6,4 @@ use Rattle.wave.specs.Header.{header}
 
 -- how long the changes of one tick and the header can be
 abbrev pub Short : Type 0
-Short = ((tick : ℕ) (old s : State) → length (changes tick old s) ≤ 909) × (length header ≤ 7000)
+Short = ((tick : ℕ) (old s : State) → length (changes tick old s) ≤ 413) × (length header ≤ 3000)

@@ -17,14 +17,16 @@ pub fn header(out: &mut [u8]) -> usize
         0,
         b"$comment one unit of time is one tick of TCR1 $end\n$timescale 1 us $end\n$scope module tpu $end\n",
     );
-    let b = declare::names(out, a);
-    let c = text::bytes(
+    let b = declare::channels(out, a, 1, b'a', b"pin");
+    let c = text::bytes(out, b, b"$var wire 16 ! tcr1 $end\n");
+    let d = declare::channels(out, c, 16, b'A', b"position");
+    let e = text::bytes(
         out,
-        b,
-        b"$upscope $end\n$enddefinitions $end\n#0\n$dumpvars\n",
+        d,
+        b"$var wire 1 \" interrupt $end\n$upscope $end\n$enddefinitions $end\n#0\n$dumpvars\n",
     );
-    let d = signals::values(out, c, true, State::RESET, State::RESET);
-    text::bytes(out, d, b"$end\n")
+    let f = signals::values(out, e, true, State::RESET, State::RESET);
+    text::bytes(out, f, b"$end\n")
 }
 
 // What one tick changes, since the state that was drawn last.

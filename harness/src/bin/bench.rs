@@ -51,7 +51,7 @@ const FOUR: Motors = Motors {
 };
 const EIGHT: Motors = Motors { size: 2, ..FOUR };
 
-const CASES: [Case; 11] = [
+const CASES: [Case; 9] = [
     Case {
         name: "rest",
         what: "all at rest",
@@ -102,21 +102,6 @@ const CASES: [Case; 11] = [
             ..EIGHT
         }),
         pace: Pace::Chunks,
-    },
-    Case {
-        name: "rest-ticks",
-        what: "all at rest, tick by tick",
-        motors: None,
-        pace: Pace::Ticks,
-    },
-    Case {
-        name: "four-ticks",
-        what: "4 motors of 4 channels, period 400, tick by tick",
-        motors: Some(Motors {
-            period: 400,
-            ..FOUR
-        }),
-        pace: Pace::Ticks,
     },
     Case {
         name: "eight-ticks",

@@ -41,22 +41,18 @@ use Rattle.nearest.proofs.NearestLaws.{nearest-whole}
 use Rattle.sheet.proofs.NumberLaws as numbers
 use Rattle.sheet.proofs.Order.{faster}
 use Rattle.ramp.proofs.RampLaws.{ramps}
-use Rattle.ramp.proofs.LimitLaws.{limits}
 use Rattle.numeral.proofs.LengthLaws.{no_longer}
 use Rattle.numeral.proofs.PartsLaws.{decimal-whole, decimal-parts}
 use Rattle.ramp_lines.proofs.LengthLaws as ramp_lines
 use Rattle.ramp_lines.proofs.LineLaws as lines
 use Rattle.ramp_trials.proofs.Examples.{texts-right, sheets-right}
-use Rattle.blocks.proofs.SoundLaws.{sound-blocks}
+use Rattle.blocks.proofs.SoundLaws.{sound}
 use Rattle.blocks.proofs.FindingLaws.{finds}
 use Rattle.board.proofs.AddressLaws.{addresses}
 use Rattle.board.proofs.SaveLaws.{saves}
 use Rattle.board.proofs.LoadLaws.{loads}
 use Rattle.board.proofs.RoundTripLaws.{round_trip}
 use Rattle.board.proofs.HistoryLaws.{board-history}
-use Rattle.settings_lines.proofs.LengthLaws as settings_lines
-use Rattle.settings_lines.proofs.LineLaws.{script-same, as-printed}
-use Rattle.settings_lines.proofs.ReplyingLaws as settings_replies
 use Rattle.delivery.specs.Delivery.{EveryCall, EveryTick, EveryHistory, AtTheBench, MotorSheet, Settings, RateCount, TwoFrames, OneAtATime}
 use Rattle.delivery.proofs.delivered.Statement.{statement}
 use Rattle.delivery.proofs.delivered.Tie as tie
@@ -93,7 +89,6 @@ sheet =
       numbers = numbers.takes;
       faster = faster;
       ramps = ramps;
-      limits = limits;
       sheets = sheets-right;
       whole = decimal-whole;
       parts = decimal-parts;
@@ -106,17 +101,13 @@ sheet =
 settings : Settings
 settings =
     record {
-      sound-blocks = sound-blocks;
+      sound = sound;
       finds = finds;
       addresses = addresses;
       saves = saves;
       loads = loads;
       round_trip = round_trip loads;
       history = board-history;
-      reply-fits = settings_lines.none-longer;
-      cut-same = settings_replies.cut-same;
-      script-same = script-same;
-      as-printed = as-printed;
     }
 
 rate-count : RateCount

@@ -10,6 +10,9 @@ read-requires c κs = search rules
 enum-known-asked : tie.Need-enum-known-asked
 enum-known-asked c = search rules
 
+from-sheet-requires : tie.Need-from-sheet-requires
+from-sheet-requires c κs = search rules
+
 letter-requires : tie.Need-letter-requires
 letter-requires c κs = search rules
 
@@ -29,9 +32,10 @@ returns : tie.Need-returns
 returns c =
     let call = c.before.before in
     let letter = call.before in
-    let told = letter.before.before.before in
+    let counts = letter.before.before in
+    let told = counts.before.before in
     by-request _ _ _ _ _ _ told.before.before.read.ensures told.asked.given.1
-    (asks _ _ _ _ _ _ _ letter.letter.ensures call.answer.ensures)
+    (asks _ _ _ _ _ _ _ _ counts.from-sheet.ensures.0 letter.letter.ensures call.answer.ensures)
 
 same-length-2 : tie.Need-same-length-2
 same-length-2 c = search rules
@@ -49,6 +53,7 @@ reply-spec =
     (tie.spec
     read-requires
     enum-known-asked
+    from-sheet-requires
     letter-requires
     answer-requires
     enum_told

@@ -7,11 +7,8 @@ use borrow.Author.Rules.{rules}
 use Rattle.requests.proofs.tried.Statement.{statement}
 use Rattle.requests.proofs.tried.Tie as tie
 
-slice-aggregate-copy : tie.Need-slice-aggregate-copy
-slice-aggregate-copy c = search rules
-
-copy-requires : tie.Need-copy-requires
-copy-requires c κs = search rules
+copied-requires : tie.Need-copied-requires
+copied-requires c κs = search rules
 
 slice-aggregate-ask-channels : tie.Need-slice-aggregate-ask-channels
 slice-aggregate-ask-channels c = search rules
@@ -22,16 +19,9 @@ ask-channels-requires c κs = search rules
 returns : tie.Need-returns
 returns c =
     let k = c.before in
-    let p = k.before.before.before in
-    let a = p.before.before.before.args in
-    (_, k.ask-channels.ensures ∙ ap (λ (x : List ℕ). ask_channels 8 a.a a.v (state_in x)) p.copy.ensures)
+    let a = k.before.before.before.before.args in
+    (_, k.ask-channels.ensures ∙ ap (λ (x : List ℕ). ask_channels 8 a.a a.v (state_in x)) k.before.before.copied.ensures)
 
 pub tried-spec : {M : Type 1} → statement M
 tried-spec =
-    tie.close
-    (tie.spec
-    slice-aggregate-copy
-    copy-requires
-    slice-aggregate-ask-channels
-    ask-channels-requires
-    returns)
+    tie.close (tie.spec copied-requires slice-aggregate-ask-channels ask-channels-requires returns)

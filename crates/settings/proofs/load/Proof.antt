@@ -1,41 +1,31 @@
-use mathlib.Core.Path.{refl}
 use borrow.Author.Rules.{rules}
 use Rattle.settings.proofs.load.Statement.{statement}
 use Rattle.settings.proofs.load.Tie as tie
+use mathlib.Core.Path.{refl}
+use Rattle.keeping.specs.Keeping.{load_from, load_of}
+use Rattle.settings.proofs.AnswerLaws.{loaded}
 
-slice-aggregate-pack : tie.Need-slice-aggregate-pack
-slice-aggregate-pack c = search rules
+chosen-requires : tie.Need-chosen-requires
+chosen-requires c κs = search rules
 
-pack-requires : tie.Need-pack-requires
-pack-requires c κs = search rules
+enum-known-c : tie.Need-enum-known-c
+enum-known-c c = search rules
 
-slice-aggregate-load-in : tie.Need-slice-aggregate-load-in
-slice-aggregate-load-in c = search rules
+enum-known-c-2 : tie.Need-enum-known-c-2
+enum-known-c-2 c = search rules
 
-load-in-requires : tie.Need-load-in-requires
-load-in-requires c κs = search rules
-
-slice-aggregate-unpack : tie.Need-slice-aggregate-unpack
-slice-aggregate-unpack c = search rules
-
-unpack-requires : tie.Need-unpack-requires
-unpack-requires c κs = search rules
+from-requires : tie.Need-from-requires
+from-requires c κs = search rules
 
 returns : tie.Need-returns
-returns c =
-    let w = c.before.before.before in
-    let s = w.before.before.before.pack.ensures.1 in
-    let e = w.load-in.ensures in
-    (rw (e.0, c.unpack.ensures, e.1.1, s) refl, rw (← s) e.2, rw (← s) e.3)
+unfolding load_of load_from
+returns c = loaded _ _ _ _ (rw (← c.before.before.before.chosen.ensures, c.before.c.given.1) refl)
+
+returns-2 : tie.Need-returns-2
+unfolding load_of
+returns-2 c = loaded _ _ _ _ (rw (c.from.ensures, ← c.before.before.before.before.chosen.ensures, c.before.before.c2.given.1) refl)
 
 pub load_spec : {M : Type 1} → statement M
 load_spec =
     tie.close
-    (tie.spec
-    slice-aggregate-pack
-    pack-requires
-    slice-aggregate-load-in
-    load-in-requires
-    slice-aggregate-unpack
-    unpack-requires
-    returns)
+    (tie.spec chosen-requires enum-known-c enum-known-c-2 from-requires returns returns-2)

@@ -1,30 +1,36 @@
-use mathlib.Core.Path.{◌≡◌, sym}
+use Prim.Native.Nat.{◌-◌, ◌≤◌}
+use mathlib.Core.Path.{◌≡◌}
 use native.Mathlib.Omega.{arith}
 use lib.ListN.{length}
-use lib.Seq.{length-take-le}
 use borrow.Author.Rules.{rules}
-use Rattle.streams.specs.Cutting.{Within}
+use Rattle.text.proofs.PlacingLaws.{within}
 use Rattle.tpu_wave.proofs.lines_done.Statement.{statement}
 use Rattle.tpu_wave.proofs.lines_done.Tie as tie
 
 abbrev invariant-loop : tie.invariant-loop
-invariant-loop input₀ line₀ out₀ s₀ p₀ lines₀ t8 input line out s p lines =
-    (length input ≡ length input₀) × (length line ≡ length line₀) × (length out ≡ length out₀) × Within (length input) (length line) (length out) p
+invariant-loop block line₀ out₀ t₀ at₀ line out t at =
+    (at ≤ length block) × (length line ≡ length line₀) × (length out ≡ length out₀) × (t.kept ≤ length line) × (t.waiting ≤ length out)
 
 abbrev decreases-loop : tie.decreases-loop
-decreases-loop input₀ line₀ out₀ s₀ p₀ lines₀ t8 input line out s p lines = lines
-
-header-requires : tie.Need-header-requires invariant-loop decreases-loop
-header-requires c κs = search rules
+decreases-loop block line₀ out₀ t₀ at₀ line out t at = length block - at
 
 loop-holds : tie.Need-loop-init invariant-loop decreases-loop
 loop-holds c = search rules
 
-slice-aggregate-next : tie.Need-slice-aggregate-next invariant-loop decreases-loop
-slice-aggregate-next c = search rules
+find-requires : tie.Need-find-requires invariant-loop decreases-loop
+find-requires c κs = search rules
 
-next-requires : tie.Need-next-requires invariant-loop decreases-loop
-next-requires c κs = search rules
+sub-bytes : tie.Need-overflow-sub-bytes invariant-loop decreases-loop
+sub-bytes c = search rules
+
+part-bytes-start : tie.Need-slice-bounds-bytes-start invariant-loop decreases-loop
+part-bytes-start c = search rules
+
+part-bytes-end : tie.Need-slice-bounds-bytes-end invariant-loop decreases-loop
+part-bytes-end c = search rules
+
+bytes-requires : tie.Need-bytes-requires invariant-loop decreases-loop
+bytes-requires c κs = search rules
 
 same_length : tie.Need-same-length invariant-loop decreases-loop
 same_length c = search rules
@@ -32,51 +38,29 @@ same_length c = search rules
 same-length-2 : tie.Need-same-length-2 invariant-loop decreases-loop
 same-length-2 c = search rules
 
-same-length-3 : tie.Need-same-length-3 invariant-loop decreases-loop
-same-length-3 c = search rules
-
 returns : tie.Need-returns invariant-loop decreases-loop
-returns c = search rules
+returns c = let k = within c.before.before.before.bytes.ensures (omega arith) in search rules
 
-slice-reshare-prefix-drawn : tie.Need-slice-reshare-prefix-drawn invariant-loop decreases-loop
-slice-reshare-prefix-drawn c = search rules
+add_at : tie.Need-overflow-add-at invariant-loop decreases-loop
+add_at c = search rules
 
-slice-aggregate-drawn : tie.Need-slice-aggregate-drawn invariant-loop decreases-loop
-slice-aggregate-drawn c = sym (length-take-le _ _ (omega arith))
-
-drawn-requires : tie.Need-drawn-requires invariant-loop decreases-loop
-drawn-requires c κs = search rules
-
-sub-lines : tie.Need-overflow-sub-lines invariant-loop decreases-loop
-sub-lines c =
-    let t = c.before.before.before.before.before.before.before.before.before.before.before.before.before.before.before.before.loop-test.true in
-    search rules
+line-done-requires : tie.Need-line-done-requires invariant-loop decreases-loop
+line-done-requires c κs = let k = within c.before.before.before.before.before.bytes.ensures (omega arith) in search rules
 
 loop-less : tie.Need-loop-smaller invariant-loop decreases-loop
-loop-less c =
-    let t = c.before.before.before.before.before.before.before.before.before.before.before.before.before.before.before.before.loop-test.true in
-    search rules
+loop-less c = search rules
 
 loop-again : tie.Need-loop-preserved invariant-loop decreases-loop
 loop-again c =
-    let l = c.before.before.before.before.before.before.before.before.before.before.before.before.before.before.before.before.before.loop.invariant in
-    let n = c.before.before.before.before.before.before.before.before.before.before.before.next in
-    let e = n.ensures in
-    let a = n.auto.1.1.1.0 in
-    let b = n.auto.1.1.1.1.0 in
-    let r = c.before.before.drawn in
-    let f = r.ensures in
-    let d = r.auto.1.1.0 in
+    let test = c.before.before.before.before.before in
+    let inv = test.before.before.before.before.before.before.before.before.loop.invariant in
     search rules
+
+same-length-3 : tie.Need-same-length-3 invariant-loop decreases-loop
+same-length-3 c = search rules
 
 same-length-4 : tie.Need-same-length-4 invariant-loop decreases-loop
 same-length-4 c = search rules
-
-same-length-5 : tie.Need-same-length-5 invariant-loop decreases-loop
-same-length-5 c = search rules
-
-same-length-6 : tie.Need-same-length-6 invariant-loop decreases-loop
-same-length-6 c = search rules
 
 returns-2 : tie.Need-returns-2 invariant-loop decreases-loop
 returns-2 c = search rules
@@ -87,21 +71,19 @@ lines-done-spec =
     (tie.spec
     invariant-loop
     decreases-loop
-    header-requires
     loop-holds
-    slice-aggregate-next
-    next-requires
+    find-requires
+    sub-bytes
+    part-bytes-start
+    part-bytes-end
+    bytes-requires
     same_length
     same-length-2
-    same-length-3
     returns
-    slice-reshare-prefix-drawn
-    slice-aggregate-drawn
-    drawn-requires
-    sub-lines
+    add_at
+    line-done-requires
     loop-less
     loop-again
+    same-length-3
     same-length-4
-    same-length-5
-    same-length-6
     returns-2)

@@ -28,12 +28,12 @@ returns-2 : tie.Need-returns-2
 unfolding words_of
 returns-2 c = goes_on _ true _ _ _ (sym (le-leb _ _ c.before.before.if1.false)) refl (search (goes_on, stops) depth 14)
 
-cast-t10 : tie.Need-overflow-cast-t10
-cast-t10 c = search rules
+cast-t9 : tie.Need-overflow-cast-t9
+cast-t9 c = search rules
 
 returns-3 : tie.Need-returns-3
 unfolding words_of
-returns-3 c = goes_on _ true _ _ _ (sym (le-leb _ _ c.before.before.if1.false)) refl (search goes_on depth 14)
+returns-3 c = goes_on _ true _ _ _ (sym (le-leb _ _ c.before.before.if1.false)) refl (search (goes_on, stops) depth 14)
 
 pub words-spec : {M : Type 1} → statement M
 words-spec =
@@ -45,5 +45,5 @@ words-spec =
     cast-ramp-good
     ramp-good-requires
     returns-2
-    cast-t10
+    cast-t9
     returns-3)

@@ -4,13 +4,12 @@ use Rattle.std.proofs.Common.{◌≡◌, ◌-◌, ◌%◌, ◌≤◌, length, sy
 use Rattle.blocks.specs.Blocks.{laid, sum}
 use Rattle.blocks.proofs.WordLaws.{laid-length}
 use Rattle.keeping.specs.Layout.{held_word, block_word}
-use Rattle.pack.specs.Packing.{state_in}
 use Rattle.keeping.proofs.LayoutLaws.{block-word}
 use Rattle.saving.proofs.LayLaws.{laid_next, check-block}
 
 abbrev invariant-loop : tie.invariant-loop
 invariant-loop store₀ k s version total₀ i₀ store total i =
-    (i ≤ 255) × (store ≡ laid (block_word (state_in s) version) store₀ k i) × (total ≡ sum (held_word (state_in s) version) i % 65536)
+    (i ≤ 255) × (store ≡ laid (block_word s version) store₀ k i) × (total ≡ sum (held_word s version) i % 65536)
 
 abbrev decreases-loop : tie.decreases-loop
 decreases-loop store₀ k s version total₀ i₀ store total i = 255 - i

@@ -6,18 +6,17 @@ use mathlib.Core.Path.{◌≡◌, refl}
 use borrow.Author.Rules.{rules}
 use Rattle.unit.specs.Calls.{run}
 use Rattle.keeping.specs.Layout.{setting_writes, load_calls}
-use Rattle.pack.specs.Packing.{state_in, Holds}
 use Rattle.settings.proofs.AnswerLaws.{written_next}
 
 abbrev invariant-loop : tie.invariant-loop
-invariant-loop s₀ store k n₀ s n = (n ≤ 106) × Holds s (run (state_in s₀) (setting_writes store k n))
+invariant-loop s₀ store k n₀ s n = (n ≤ 106) × (s ≡ run s₀ (setting_writes store k n))
 
 abbrev decreases-loop : tie.decreases-loop
 decreases-loop s₀ store k n₀ s n = 106 - n
 
 loop-holds : tie.Need-loop-init invariant-loop decreases-loop
 unfolding setting_writes run
-loop-holds c = (omega arith, (search rules, refl))
+loop-holds c = (omega arith, refl)
 
 address-requires : tie.Need-address-requires invariant-loop decreases-loop
 address-requires c κs = search rules
@@ -39,15 +38,11 @@ loop-less c = omega arith
 
 loop-again : tie.Need-loop-preserved invariant-loop decreases-loop
 loop-again c =
-    let w = c.before.before in
-    let l = w.before.before.before.before.before.loop in
-    let e = w.write.ensures.1 in (
-      omega arith,
-      (e.0, written_next _ _ _ _ _ _ _ _ l.invariant.1.1 e.1 w.before.before.address.ensures w.before.word.ensures),
+    let h : c.before.before.before.before.before.loop.n + 1 ≤ 106 = omega arith in (
+      h,
+      written_next _ _ _ _ _ _ _ _ c.before.before.before.before.before.loop.invariant.1 c.before.write.ensures.0
+          c.before.before.before.address.ensures c.before.before.word.ensures,
     )
-
-same_length : tie.Need-same-length invariant-loop decreases-loop
-same_length c = search rules
 
 returns : tie.Need-returns invariant-loop decreases-loop
 unfolding load_calls
@@ -69,5 +64,4 @@ played-spec =
     add-n
     loop-less
     loop-again
-    same_length
     returns)

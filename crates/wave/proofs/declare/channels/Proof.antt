@@ -11,15 +11,21 @@ use Rattle.wave.proofs.declare.channels.Statement.{statement}
 use Rattle.wave.proofs.declare.channels.Tie as tie
 
 abbrev invariant-loop : tie.invariant-loop
-invariant-loop out₀ at row name next₀ c₀ out next c =
-    (c ≤ 16) × (length out ≡ length out₀) × Wrote out₀ at (declarations c row name) next out
+invariant-loop out₀ at width first name next₀ c₀ out next c =
+    (c ≤ 16) × (length out ≡ length out₀) × Wrote out₀ at (declarations c width first name) next out
 
 abbrev decreases-loop : tie.decreases-loop
-decreases-loop out₀ at row name next₀ c₀ out next c = 16 - c
+decreases-loop out₀ at width first name next₀ c₀ out next c = 16 - c
 
 loop-holds : tie.Need-loop-init invariant-loop decreases-loop
 unfolding declarations
 loop-holds c = (omega arith, refl, nothing _ _)
+
+add-signal : tie.Need-overflow-add-signal invariant-loop decreases-loop
+add-signal c = search rules
+
+cast-signal : tie.Need-overflow-cast-signal invariant-loop decreases-loop
+cast-signal c = search rules
 
 signal-requires : tie.Need-signal-requires invariant-loop decreases-loop
 signal-requires c κs = search rules
@@ -51,6 +57,8 @@ channels-spec =
     invariant-loop
     decreases-loop
     loop-holds
+    add-signal
+    cast-signal
     signal-requires
     add-c
     loop-less

@@ -5,23 +5,11 @@ use Rattle.wave.specs.Header.{declaration}
 use Rattle.wave.proofs.declare.signal.Statement.{statement}
 use Rattle.wave.proofs.declare.signal.Tie as tie
 
-width-requires : tie.Need-width-requires
-width-requires c κs = search rules
-
-first-requires : tie.Need-first-requires
-first-requires c κs = search rules
-
-add-id : tie.Need-overflow-add-id
-add-id c = search rules
-
 slice-aggregate-bytes : tie.Need-slice-aggregate-bytes
 slice-aggregate-bytes c = search rules
 
 bytes-requires : tie.Need-bytes-requires
 bytes-requires c κs = search rules
-
-cast-decimal : tie.Need-overflow-cast-decimal
-cast-decimal c = search rules
 
 decimal-requires : tie.Need-decimal-requires
 decimal-requires c κs = search rules
@@ -56,24 +44,17 @@ returns c =
     let third = fourth.before.before.before.before in
     let second = third.before.before.before.before.before in
     let first = second.before.before.before.before in
-    let id = first.before.before.before in
-    let width = id.before in
-    rw (← width.width.ensures.0, ← id.first.ensures.0)
-    (also first.bytes.ensures
+    also first.bytes.ensures
     (also second.decimal.ensures
     (also third.bytes2.ensures
-    (also fourth.bytes3.ensures (also fifth.decimal2.ensures last.bytes4.ensures)))))
+    (also fourth.bytes3.ensures (also fifth.decimal2.ensures last.bytes4.ensures))))
 
 pub signal_spec : {M : Type 1} → statement M
 signal_spec =
     tie.close
     (tie.spec
-    width-requires
-    first-requires
-    add-id
     slice-aggregate-bytes
     bytes-requires
-    cast-decimal
     decimal-requires
     slice-aggregate-bytes-2
     bytes-requires-2
