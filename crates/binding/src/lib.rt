@@ -1,4 +1,6 @@
 // Which channels are bound, of the state that lent words hold, and the requests that bind them.
+#![tactic(auto)]
+
 ghost use Rattle.std.specs.Prelude.{◌≡◌, ℕ, ◌*◌, ◌<◌, ◌&&◌, ◌≢◌, leb, length};
 ghost use Rattle.words.specs.Choice.{pick};
 ghost use Rattle.words.specs.Field.{field};

@@ -1,4 +1,6 @@
 // Fields of a register word, taken out and put in by shifts and masks. An index is reduced to the number of fields.
+#![tactic(auto)]
+
 ghost use Rattle.std.specs.Prelude.{◌≡◌, ◌+◌, ◌*◌, ◌%◌, ◌≤◌, ◌<◌};
 ghost use Rattle.words.specs.Field.{field, with_field, bit_of, bit_value};
 

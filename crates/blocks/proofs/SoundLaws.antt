@@ -20,6 +20,7 @@ sum_same f g (suc n) same = rw (sum_same f g n (λ j l. same j (omega arith)), s
 pub sum-but-one : (f g : ℕ → ℕ) (n i : ℕ) → i < n → ((j : ℕ) → j < n → j ≢ i → f j ≡ g j)
     → sum f n + g i ≡ sum g n + f i
 unfolding sum
+sum-but-one f g zero i l same = elim l [ ]
 sum-but-one f g (suc n) i l same =
     ⊎_elim
     (λ e.

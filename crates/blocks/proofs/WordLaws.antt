@@ -46,6 +46,7 @@ laid-length f b k (suc n) = with-length (laid f b k n) k n (f n) ∙ laid-length
 pub laid_word : (f : ℕ → ℕ) (b : List ℕ) (k n i : ℕ) → n ≤ 256 → i < n → 512 * k + 512 ≤ length b
     → word_in (laid f b k n) k i ≡ f i
 unfolding laid
+laid_word f b k zero i m l long = elim l [ ]
 laid_word f b k (suc n) i m l long =
     ⊎_elim
     (λ e. rw e (word_same (laid f b k n) k n (f n) (omega (arith, laid-length f b k n))))

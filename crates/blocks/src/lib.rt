@@ -1,10 +1,12 @@
 // A store of 2 to 128 blocks of 512 bytes: words, soundness, and which block is sought. Paper 02, #102.
+#![tactic(auto)]
+
 ghost use Rattle.std.specs.Prelude.{◌≡◌, ◌%◌, slice_index, slice_set};
 ghost use Rattle.blocks.specs.Blocks.{count, word_in, with_word, version, sum, is_sound};
 ghost use Rattle.blocks.specs.Finding.{fits, rank, better, found};
 
 // What is sought: the newest sound block, one of a named version, the oldest sound one, or one that is not sound.
-#[derive(Drop)]
+#[derive(Clone, Copy)]
 pub enum Search {
     Newest,
     Named(u32),
@@ -12,7 +14,7 @@ pub enum Search {
     Unsound,
 }
 
-#[derive(Drop)]
+#[derive(Clone, Copy)]
 pub enum Found {
     At(u8),
     Missing,

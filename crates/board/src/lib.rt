@@ -1,4 +1,6 @@
 // A board with a store: what is proved of its saves, its loads and every list of its calls. Paper 02, #102.
+#![tactic(auto)]
+
 ghost use Rattle.board.specs.Saves.{Saves};
 ghost use Rattle.board.specs.Loads.{Addresses, Loads};
 ghost use Rattle.board.specs.RoundTrip.{RoundTrip};

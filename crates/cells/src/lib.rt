@@ -1,4 +1,6 @@
 // The parts of the state that lent words hold, read where they stand.
+#![tactic(auto)]
+
 mod decode;
 
 ghost use Rattle.std.specs.Prelude.{◌≡◌, ◌<◌, length};

@@ -1,4 +1,6 @@
 // The 16-bit timers: a match time is made by a wrapping add, and a wrapping subtract tells whether the timer has passed it.
+#![tactic(auto)]
+
 ghost use Rattle.std.specs.Prelude.{◌≡◌};
 ghost use Rattle.words.specs.declared.Timer.TheVariants.{Tcr1};
 ghost use Rattle.words.specs.Clock.{since, past, later, time_by, same_timer, onward, ticks_until};

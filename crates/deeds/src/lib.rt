@@ -1,4 +1,6 @@
 // A read, a write and the interrupt line on the words that a caller lends, made where the words stand.
+#![tactic(auto)]
+
 ghost use Rattle.std.specs.Prelude.{◌≡◌, ◌%◌, ◌<◌, ◌≤◌, length};
 ghost use Rattle.words.specs.Choice.{pick};
 ghost use Rattle.unit.specs.TheUnit.{each, interrupt_line};

@@ -1,4 +1,6 @@
 // What a line of a script draws: the unit goes on as the script program has it, and each tick is shown.
+#![tactic(auto)]
+
 ghost use Rattle.std.specs.Prelude.{◌≡◌, min, length};
 ghost use Rattle.text.specs.Placing.{written};
 ghost use Rattle.script.specs.Replying.{state_after, ticks_after};
@@ -10,7 +12,7 @@ use unit::State;
 mod act;
 
 // The state and the ticks since reset after a line, the state that was drawn last, and how many bytes the drawing took.
-#[derive(Drop)]
+#[derive(Clone, Copy)]
 pub struct Drawn {
     pub state: State,
     pub seen: State,

@@ -1,4 +1,6 @@
 // The fields of the parameter words, of the state that lent words hold.
+#![tactic(auto)]
+
 ghost use Rattle.std.specs.Prelude.{◌≡◌, suc, ◌+◌, ◌-◌, ◌≤◌, ◌<◌, length};
 ghost use Rattle.words.specs.Field.{field};
 ghost use Rattle.unit.specs.TheUnit.{exists, mod_count, next_rate, top, last, word, cntl0, cntl1, size};

@@ -78,6 +78,7 @@ or-le a b = go (ltb a b) (eqb a b) (λ h. le_of_lt (ltb→lt a b h)) (λ h. le_o
     go : (x y : Bool) → (T x → a ≤ b) → (T y → a ≤ b) → T (x || (y && true)) → a ≤ b
     go true y i j t = i tt
     go false true i j t = j tt
+    go false false i j t = elim t [ ]
 
 pub finite-le : (x y : Float) → Finite x → Finite y → T (le x y) → num x * den y ≤ num y * den x
 unfolding le

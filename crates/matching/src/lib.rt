@@ -1,4 +1,6 @@
 // A tick begins: the timers and the slot go on, and the matches that are due act, in lent words.
+#![tactic(auto)]
+
 ghost use Rattle.std.specs.Prelude.{◌≡◌, ◌<◌, length};
 ghost use Rattle.motor.specs.declared.Phase.TheVariants.{Armed};
 ghost use Rattle.unit.specs.TheUnit.{time_for, each};

@@ -1,9 +1,11 @@
 // The whole number nearest to a float, worked out from the float's bits. Paper 02, #101.
+#![tactic(auto)]
+
 ghost use Rattle.std.specs.Prelude.{◌≡◌, ◌^◌, ◌<◌};
-ghost use Rattle.nearest.specs.Counting.{half_up, count_of};
+ghost use Rattle.nearest.specs.Counting.{half_up, in_count, count_of};
 
 // A whole number from 0 to $7FFF, or none of these.
-#[derive(Drop)]
+#[derive(Clone, Copy)]
 pub enum Count {
     Whole(u16),
     Outside,
@@ -36,7 +38,13 @@ pub fn nearest(q: f64) -> Count
         }
         return Count::Outside;
     }
-    let k = half_up(0x10_0000_0000_0000 + digits, 1075 - exponent);
+    in_count(half_up(0x10_0000_0000_0000 + digits, 1075 - exponent))
+}
+
+// A whole number as a count.
+fn in_count(k: u64) -> Count
+    ensures { result ≡ in_count k }
+{
     if k <= 0x7fff {
         Count::Whole(k as u16)
     } else {

@@ -1,9 +1,11 @@
 // Numbers written in decimal, read out of bytes.
+#![tactic(auto)]
+
 ghost use Rattle.std.specs.Prelude.{◌≡◌, true, ◌^◌, ◌≤◌, ◌<◌, length};
 ghost use Rattle.numeral.specs.Decimal.{Small, is_digit, takes, with_digit, after_digits, after_point, with_byte, numeral_of, value_of, decimal_of, small_of, short_of};
 
 // What the bytes read so far are.
-#[derive(Drop)]
+#[derive(Clone, Copy)]
 enum Numeral {
     // the digits as one whole number, and how many they are
     Digits(u64, u8),
@@ -14,7 +16,7 @@ enum Numeral {
 }
 
 // A number of at most fifteen digits.
-#[derive(Drop)]
+#[derive(Clone, Copy)]
 pub enum Decimal {
     Value(f64),
     // no such number
@@ -22,7 +24,7 @@ pub enum Decimal {
 }
 
 // A whole number of one or two digits.
-#[derive(Drop)]
+#[derive(Clone, Copy)]
 pub enum Short {
     Whole(u8),
     // no such number

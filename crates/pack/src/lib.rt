@@ -1,4 +1,6 @@
 // The state by value into words that a caller lends, and back.
+#![tactic(auto)]
+
 mod laying;
 pub mod layout;
 mod reading;

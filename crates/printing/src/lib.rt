@@ -1,4 +1,6 @@
 // Numbers put into a lent buffer of any length, as `text` puts bytes.
+#![tactic(auto)]
+
 ghost use Rattle.std.specs.Prelude.{◌≡◌, [], ◌∷◌, ◌<◌};
 ghost use Rattle.text.specs.Placing.{Wrote};
 ghost use Rattle.text.specs.Printing.{digit_byte, hex_word, digits, decimal, number_line};

@@ -1,4 +1,6 @@
 // The questions put for a channel, of the state that lent words hold. Question 2 is `binding::is_free`.
+#![tactic(auto)]
+
 ghost use Rattle.std.specs.Prelude.{◌≡◌, ◌<◌, length};
 ghost use Rattle.unit.specs.TheUnit.{all, size, mod_count};
 ghost use Rattle.unit.specs.Gate.{is_stepper, is_timed, may_initialise, otherwise_zero, span_good, is_ready, group_ready, shows_pattern, pattern_good, ramp_good, quick_good, target_good};

@@ -1,4 +1,6 @@
 // How many ticks pass from a state in which nothing happens but that the timers and the slot go on, and the state after them.
+#![tactic(auto)]
+
 ghost use Rattle.std.specs.Prelude.{◌≡◌, min, ◌<◌, length};
 ghost use Rattle.words.specs.Clock.{onward};
 ghost use Rattle.slots.specs.Slots.{idled};

@@ -1,4 +1,6 @@
 // A ramp from the motor maker's sheet, turned into STEP_CNTL0 and STEP_CNTL1. Paper 02, #101.
+#![tactic(auto)]
+
 ghost use Rattle.std.specs.Prelude.{◌≡◌, true};
 ghost use Rattle.sheet.specs.Numbers.{is_positive};
 ghost use Rattle.words.specs.Choice.{pick};
@@ -10,7 +12,7 @@ use crate::controls::{ends, steps};
 mod controls;
 
 // What the sheet gives.
-#[derive(Drop)]
+#[derive(Clone, Copy)]
 pub enum Ramp {
     // milliseconds: the slowest period, and the difference between neighbours
     Periods(f64, f64),
@@ -19,7 +21,7 @@ pub enum Ramp {
 }
 
 // What is answered.
-#[derive(Drop)]
+#[derive(Clone, Copy)]
 pub enum Counts {
     Taken { step_cntl0: u16, step_cntl1: u16 },
     Refused(u8),

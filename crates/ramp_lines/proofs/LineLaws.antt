@@ -1,14 +1,13 @@
 -- Why a long line asks for nothing.
-use Prim.Native.Nat.{ℕ, ◌+◌, ◌-◌, ◌≤◌, ◌<◌}
+use Prim.Native.Nat.{ℕ, ◌+◌, ◌-◌, ◌≤◌}
 use mathlib.Core.Bool.{Bool, true, false}
 use mathlib.Core.Path.{◌≡◌, refl, sym, ap, ◌∙◌}
 use mathlib.Core.List.{List}
-use native.Mathlib.Numerals.{add-one}
 use native.Mathlib.Omega.{arith}
 use lib.Dec.{leb, ltb, eqb}
 use lib.ListN.{length, take, drop, get_or, length-drop}
-use lib.Seq.{drop-cons, drop-length, take-length, take_all, length-take-le}
-use borrow.Author.Tests.{eq-eqb, ne_eqb, ltb-true, leb-true, leb-false}
+use lib.Seq.{take-length, take_all, length-take-le}
+use borrow.Author.Tests.{ltb-true, leb-true, leb-false}
 use Rattle.words.specs.Choice.{ask}
 use Rattle.words.proofs.ChoiceLaws.{ask-cases}
 use Rattle.numeral.specs.declared.Decimal.{Decimal}

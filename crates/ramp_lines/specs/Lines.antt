@@ -1,5 +1,5 @@
 -- What a line asks. Paper 02, #101. Bytes are numbers; 32 is the space.
-use Rattle.std.specs.Prelude.{ℕ, suc, ◌+◌, ◌-◌, List, [], ◌∷◌, length, take, drop, get_or, leb, ltb, eqb}
+use Rattle.std.specs.Prelude.{ℕ, ◌+◌, ◌-◌, List, length, take, drop, get_or, leb, ltb, eqb}
 use Rattle.words.specs.Choice.{pick, ask}
 use Rattle.text.specs.Finding.{first_from}
 use Rattle.numeral.specs.declared.Decimal.{Decimal}

@@ -1,4 +1,6 @@
 // The ramp program's lines: what each asks, and the bytes that answer it. Paper 02, #101.
+#![tactic(auto)]
+
 ghost use Rattle.std.specs.Prelude.{◌≡◌, min, length};
 ghost use Rattle.text.specs.Placing.{written};
 ghost use Rattle.ramp_lines.specs.Replying.{letter_of, reply_to};

@@ -6,7 +6,7 @@ use numeral::{Decimal, Short};
 use ramp::Ramp;
 
 // What a line asks.
-#[derive(Drop)]
+#[derive(Clone, Copy)]
 pub enum Request {
     // the sheet's ramp, the tick length in milliseconds, and N
     Asks(Ramp, f64, u8),

@@ -1,4 +1,6 @@
 // The fields of the registers, of the state that lent words hold.
+#![tactic(auto)]
+
 ghost use Rattle.std.specs.Prelude.{◌≡◌, ◌<◌, length};
 ghost use Rattle.unit.specs.TheUnit.{cfsr_of, hsrr_of, cpr_of, function, request, with_request, priority};
 ghost use Rattle.pack.specs.Packing.{state_words, state_in, Holds};

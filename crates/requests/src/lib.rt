@@ -1,4 +1,6 @@
 // What is said of the requests of an HSRR word.
+#![tactic(auto)]
+
 mod channels;
 
 ghost use Rattle.std.specs.Prelude.{◌≡◌, length, ◌≤◌, ◌%◌};

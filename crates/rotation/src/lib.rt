@@ -1,4 +1,6 @@
 // Rotation of a pattern word, in one place and by two shifts, for any number of places either way.
+#![tactic(auto)]
+
 ghost use Rattle.std.specs.Prelude.{◌≡◌, ◌%◌};
 ghost use Rattle.words.specs.Rotation.{rotated_right, Turned};
 

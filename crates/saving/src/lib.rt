@@ -1,4 +1,6 @@
 // What a save writes: under which version, where to, and the block. Paper 02, #102.
+#![tactic(auto)]
+
 pub mod layout;
 
 ghost use Rattle.std.specs.Prelude.{◌≡◌};

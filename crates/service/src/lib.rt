@@ -1,4 +1,6 @@
 // The service of a channel, in lent words: its request, then the match that was pending as the service began.
+#![tactic(auto)]
+
 ghost use Rattle.std.specs.Prelude.{◌≡◌, ◌<◌, length};
 ghost use Rattle.motor.specs.Stepping.{on_request};
 ghost use Rattle.unit.specs.TheUnit.{kind_in, time_for, motor_of};
@@ -56,6 +58,7 @@ fn step_request(s: &mut [u16], c: u16, p: Phase)
 }
 
 // The request of c is no longer pending, and does what it is for.
+#[tactic(auto, unfolding(unit::specs::OneTick::request_served))]
 fn request_served(s: &mut [u16], c: u16)
     requires { (length s.old ≡ state_words) × (c < 16) }
     ensures { Holds s.new (request_served c (state_in s.old)) }

@@ -1,4 +1,6 @@
 // A board's settings, kept by version in a store that the caller lends. Paper 02, #102.
+#![tactic(auto)]
+
 mod loading;
 
 ghost use Rattle.std.specs.Prelude.{◌≡◌};

@@ -1,4 +1,6 @@
 // The numbers of a motor sheet: which are taken, and their counts. Paper 02, #101.
+#![tactic(auto)]
+
 ghost use Rattle.std.specs.Prelude.{◌≡◌};
 ghost use Rattle.std.specs.Float.Ieee.{lt};
 ghost use Rattle.sheet.specs.Numbers.{infinity, is_rate_count, is_positive, is_difference, is_speedup, period_count, speed_count};

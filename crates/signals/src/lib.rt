@@ -1,5 +1,7 @@
 // The values of what is shown of a state, put into a lent buffer of any length: each function takes the place to begin at and
 // answers the next.
+#![tactic(auto)]
+
 ghost use Rattle.std.specs.Prelude.{◌≡◌, ◌<◌, length};
 ghost use Rattle.text.specs.Placing.{Wrote};
 ghost use Rattle.words.specs.Field.{bit_value};

@@ -1,4 +1,6 @@
 // One service a tick, by priority: which of the channels that are ready a tick serves.
+#![tactic(auto)]
+
 ghost use Rattle.std.specs.Prelude.{◌≡◌};
 ghost use Rattle.words.specs.Field.{bit_of};
 ghost use Rattle.slots.specs.Claims.{OneService};
@@ -6,7 +8,7 @@ ghost use Rattle.slots.specs.Rows.{SlotRows};
 ghost use Rattle.slots.specs.Slots.{ticked, idled, slot_level, of_level, served, found, asked_in, next_in, highest, chosen};
 
 // Where the slots stand, and where each level's next search begins.
-#[derive(Drop)]
+#[derive(Clone, Copy)]
 pub struct Slots {
     // ticks since reset, modulo 7
     pub slot: u16,
@@ -17,7 +19,7 @@ pub struct Slots {
 }
 
 // Which channels are ready: a word for each level, bit c for channel c.
-#[derive(Drop)]
+#[derive(Clone, Copy)]
 pub struct Ready {
     pub high: u16,
     pub middle: u16,
@@ -25,14 +27,14 @@ pub struct Ready {
 }
 
 // Whom a slot goes to, and how the slots stand after it.
-#[derive(Drop)]
+#[derive(Clone, Copy)]
 pub enum Service {
     Of(u16, Slots),
     Nobody,
 }
 
 // A channel number, or none.
-#[derive(Drop)]
+#[derive(Clone, Copy)]
 pub enum Found {
     At(u16),
     Nothing,

@@ -1,5 +1,7 @@
 // Stepping in lent words: the motor of a group, a step of it, and what a test decided. What is asked of the state is read before anything
 // changes, as the definitions have it.
+#![tactic(auto)]
+
 ghost use Rattle.std.specs.Prelude.{◌≡◌, ◌+◌, ◌≤◌, ◌<◌, length};
 ghost use Rattle.words.specs.Field.{with_field};
 ghost use Rattle.motor.specs.Stepping.{period, beside};

@@ -1,4 +1,6 @@
 // The state that lent words hold, changed where it stands: a word, or some bits of one.
+#![tactic(auto)]
+
 ghost use Rattle.std.specs.Prelude.{◌≡◌, ◌<◌, length, false};
 ghost use Rattle.words.specs.Field.{with_field};
 ghost use Rattle.motor.specs.declared.Phase.TheVariants.{Resting, Armed, Matched};

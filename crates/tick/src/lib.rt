@@ -1,4 +1,6 @@
 // One tick, in lent words: the timers and the slot, then the matches, then the service of one channel.
+#![tactic(auto)]
+
 mod ready;
 
 ghost use Rattle.std.specs.Prelude.{◌≡◌, length};

@@ -1,4 +1,6 @@
 // Ticks in a row on the words that a caller lends, each with its pin word. Quiet ticks are made at once.
+#![tactic(auto)]
+
 ghost use Rattle.std.specs.Prelude.{◌≡◌, ◌++◌, ◌≤◌, ◌<◌, length, drop, replicate};
 ghost use Rattle.words.specs.Choice.{pick};
 ghost use Rattle.unit.specs.Gate.{advance_good};

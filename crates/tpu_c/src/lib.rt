@@ -1,4 +1,6 @@
 // The calls of the timer unit for C. The caller lends the words that hold the state; answers are numbers.
+#![tactic(auto)]
+
 ghost use Rattle.std.specs.Prelude.{◌≡◌, ◌<◌};
 ghost use Rattle.words.specs.Field.{bit_value};
 ghost use Rattle.unit.specs.TheUnit.{reset_state};

@@ -1,4 +1,6 @@
 // What is shown of the unit, as a value change dump: the head of the file, and what changes in a tick.
+#![tactic(auto)]
+
 ghost use Rattle.std.specs.Prelude.{◌≡◌, min, length};
 ghost use Rattle.text.specs.Placing.{Wrote, written};
 ghost use Rattle.wave.specs.Header.{header};

@@ -1,0 +1,11 @@
+use mathlib.Core.Path.{sym}
+use native.Mathlib.Numerals.{add-one}
+use native.Mathlib.Omega.{arith}
+use Rattle.fields.proofs.Bounds.{word-beyond}
+use Rattle.fields.proofs.word_after.Goals as goal
+
+pub returns-then-c-lt15 : goal.returns-then-c-lt15
+returns-then-c-lt15 c = rw (c.word.ensures, add-one)
+
+pub returns : goal.returns
+returns c = sym (word-beyond _ _ _ (omega arith))

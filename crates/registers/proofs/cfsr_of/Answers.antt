@@ -1,0 +1,7 @@
+use Rattle.unit.specs.TheUnit.{cfsr_of}
+use native.Mathlib.Omega.{arith}
+use Rattle.registers.proofs.cfsr_of.Goals as goal
+
+pub returns : goal.returns
+unfolding cfsr_of
+returns c = (omega arith, omega arith)

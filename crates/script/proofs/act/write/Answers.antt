@@ -1,0 +1,10 @@
+use Rattle.script.proofs.ReplyingLaws.{write-taken, write-refused}
+use Rattle.script.proofs.act.write.Goals as goal
+
+pub returns-in-Taken : goal.returns-in-Taken
+returns-in-Taken c =
+    write-taken _ _ _ _ _ _ _ _ c.write-a.ensures.0 c.in-Taken.is c.pair-length.ensures
+
+pub returns-in-Refused : goal.returns-in-Refused
+returns-in-Refused c =
+    write-refused _ _ _ _ _ _ _ _ c.write-a.ensures.0 _ c.in-Refused.is c.refuse-length.ensures

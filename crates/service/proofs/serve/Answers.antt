@@ -1,0 +1,8 @@
+use mathlib.Core.Path.{◌∙◌}
+use Rattle.unit.specs.OneTick.{served}
+use Rattle.service.proofs.serve.Goals as goal
+
+pub returns : goal.returns
+unfolding served
+returns c =
+    (c.match_served.ensures.0, c.match_served.ensures.1 ∙ rw (c.request_served.ensures.1, c.phase-p.ensures))
