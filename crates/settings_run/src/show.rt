@@ -2,40 +2,41 @@
 ghost use Rattle.std.specs.Prelude.{◌<◌};
 
 use keeping::Kept;
-use libc::STDOUT_FILENO;
+use std::io;
 
 // The bytes of a store are printed in rows of 32, and a block has 16 rows.
 const ROW: usize = 32;
 
 const ROWS: u16 = 129 * 16;
 
-pub fn text(t: &[u8]) {
-    io::write_all(STDOUT_FILENO, t);
+pub fn text(rt: &impl Print, t: &[u8]) -> io::Result<()> {
+    rt.write_all(t)
 }
 
 // A letter and a number.
-pub fn number(letter: &[u8], n: u64) {
-    text(letter);
-    text(b" ");
-    io::print_decimal(STDOUT_FILENO, n);
-    text(b"\n");
+pub fn number(rt: &impl Print, letter: &[u8], n: u64) -> io::Result<()> {
+    text(rt, letter)?;
+    text(rt, b" ")?;
+    rt.print(n)?;
+    text(rt, b"\n")
 }
 
 // The version after the call's letter, or the number of the no.
-pub fn kept(letter: &[u8], k: Kept) {
+pub fn kept(rt: &impl Print, letter: &[u8], k: Kept) -> io::Result<()> {
     match k {
-        Kept::Taken(version) => number(letter, version as u64),
-        Kept::Refused(n) => number(b"N", n as u64),
+        Kept::Taken(version) => number(rt, letter, version as u64),
+        Kept::Refused(n) => number(rt, b"N", n as u64),
     }
 }
 
 // Each row of a store that is not as it was before.
-pub fn changes(before: &[u8], store: &[u8]) {
+pub fn changes(rt: &impl Print, before: &[u8], store: &[u8]) -> io::Result<()> {
     for r in 0..ROWS {
         if !is_same(before, store, r) {
-            row(store, r);
+            row(rt, store, r)?;
         }
     }
+    Ok(())
 }
 
 // A byte of a row, 0 past the end of the store.
@@ -57,19 +58,19 @@ fn is_same(before: &[u8], store: &[u8], r: u16) -> bool {
     same
 }
 
-fn row(store: &[u8], r: u16) {
-    text(b"B ");
-    io::print_decimal(STDOUT_FILENO, r as u64);
-    text(b" ");
+fn row(rt: &impl Print, store: &[u8], r: u16) -> io::Result<()> {
+    text(rt, b"B ")?;
+    rt.print(r)?;
+    text(rt, b" ")?;
     for i in 0..ROW {
-        hex(byte(store, r, i));
+        hex(rt, byte(store, r, i))?;
     }
-    text(b"\n");
+    text(rt, b"\n")
 }
 
 // Two hexadecimal digits.
-fn hex(b: u8) {
+fn hex(rt: &impl Print, b: u8) -> io::Result<()> {
     let digits = b"0123456789ABCDEF";
     let two = [digits[(b / 16) as usize], digits[(b % 16) as usize]];
-    text(&two);
+    text(rt, &two)
 }

@@ -1,7 +1,10 @@
 // The ramp program: lines from standard input, their replies to standard output, block by block. Paper 02, #101.
+#![tactic(auto)]
+
 ghost use Rattle.std.specs.Prelude.{◌≡◌, ◌≤◌, length};
 
-use libc::{STDIN_FILENO, STDOUT_FILENO};
+use std::io;
+use std::io::Read;
 
 // Each byte of a block may end a line, and the replies to all of them fit.
 const BLOCK: usize = 4096;
@@ -9,39 +12,41 @@ const BLOCK: usize = 4096;
 const ROOM: usize = BLOCK * ramp_lines::MAX_REPLY;
 
 // How much of the line so far is kept, and how much of the output stands ready.
-#[derive(Drop)]
+#[derive(Clone, Copy)]
 struct Session {
     kept: usize,
     ready: usize,
 }
 
 // Of a line 64 bytes are kept, which are answered as the whole line is: `CutSame` of ramp_lines.
-fn main() {
+fn main(rt: HostRuntime) -> io::Result<()> {
     let mut input = [0u8; BLOCK];
     let mut line = [0u8; 64];
     let mut out = [0u8; ROOM];
-    blocks_done(&mut input, &mut line, &mut out);
+    blocks_done(&rt, &mut rt.stdin(), &mut input, &mut line, &mut out)
 }
 
-// To the end of the input, or until the output fails. A proved loop has to end, and nothing says that the input does: it counts down
-// from a number that no run uses up.
-fn blocks_done(input: &mut [u8], line: &mut [u8], out: &mut [u8]) {
+// To the end of the input, or until the input or the output fails. A proved loop has to end, and nothing says that the input does: it
+// counts to a number that no run reaches.
+fn blocks_done(
+    rt: &impl Print,
+    from: &mut impl Read,
+    input: &mut [u8],
+    line: &mut [u8],
+    out: &mut [u8],
+) -> io::Result<()> {
     let mut kept = 0;
-    let mut blocks = u64::MAX;
-    while blocks > 0 {
-        let got = libc::read(STDIN_FILENO, input);
-        let n = io::count(got, input);
+    for _ in 0..u64::MAX {
+        let n = from.read(input)?;
         let s = block_done(kept, &input[..n], line, out);
         kept = s.kept;
         let ready = s.ready;
-        if !io::write_all(STDOUT_FILENO, &out[..ready]) {
-            return;
-        }
+        rt.write_all(&out[..ready])?;
         if n == 0 {
-            return;
+            break;
         }
-        blocks -= 1;
     }
+    Ok(())
 }
 
 // The replies to the lines that end in a block. Where it is empty the input has ended, and with it a line that has begun.

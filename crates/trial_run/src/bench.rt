@@ -35,7 +35,7 @@ const STEP_CNTL0: u16 = 0xF54;
 const STEP_CNTL1: u16 = 0xF56;
 
 // What a trial sets before its request. `top` is STEP_RATE_CNT.
-#[derive(Drop)]
+#[derive(Clone, Copy)]
 pub struct Setting {
     top: u16,
     last: u16,

@@ -1,9 +1,10 @@
 // A motor under way, watched tick by tick through the calls.
 use crate::bench::Setting;
 use crate::{bench, show};
+use std::io;
 use unit::{Answer, State};
 
-#[derive(Drop)]
+#[derive(Clone, Copy)]
 pub struct Run {
     pub state: State,
     // ticks since the request
@@ -118,31 +119,31 @@ pub fn onward(start: Run) -> Run {
 }
 
 // One step from its tick to the next step or the arrival: its position and period.
-fn step(r: Run) -> Run {
+fn step(rt: &impl Print, r: Run) -> io::Result<Run> {
     if rests(r) {
-        return r;
+        return Ok(r);
     }
     let t = onward(r);
-    show::pair(position(r), clock::since(t.tick, r.tick));
-    t
+    show::pair(rt, position(r), clock::since(t.tick, r.tick))?;
+    Ok(t)
 }
 
 // From the next step on, so many steps or until the arrival.
-pub fn steps(start: Run, most: u16) -> Run {
+pub fn steps(rt: &impl Print, start: Run, most: u16) -> io::Result<Run> {
     let mut r = onward(start);
     let mut left = most;
     while left > 0 {
-        r = step(r);
+        r = step(rt, r)?;
         left -= 1;
     }
-    r
+    Ok(r)
 }
 
 // The steps to the arrival, its tick, that of the status bit, and how often the pins changed.
-pub fn arrival(start: Run) {
-    let r = steps(start, 20);
-    show::named(b" tick", r.tick);
-    show::named(b", status", r.lit);
-    show::named(b", pin changes", r.changes);
-    show::end();
+pub fn arrival(rt: &impl Print, start: Run) -> io::Result<()> {
+    let r = steps(rt, start, 20)?;
+    show::named(rt, b" tick", r.tick)?;
+    show::named(rt, b", status", r.lit)?;
+    show::named(rt, b", pin changes", r.changes)?;
+    show::end(rt)
 }

@@ -1,96 +1,92 @@
 // What the trials print, on standard output.
-use libc::STDOUT_FILENO;
+use std::io;
 use unit::{Answer, Answered, Reading};
 
-pub fn text(t: &[u8]) {
-    io::write_all(STDOUT_FILENO, t);
+pub fn text(rt: &impl Print, t: &[u8]) -> io::Result<()> {
+    rt.write_all(t)
 }
 
-pub fn decimal(n: u16) {
-    io::print_decimal(STDOUT_FILENO, n as u64);
+pub fn decimal(rt: &impl Print, n: u16) -> io::Result<()> {
+    rt.print(n)
 }
 
-pub fn number(n: u16) {
-    text(b" ");
-    decimal(n);
+pub fn number(rt: &impl Print, n: u16) -> io::Result<()> {
+    text(rt, b" ")?;
+    decimal(rt, n)
 }
 
-pub fn colon() {
-    text(b":");
+pub fn colon(rt: &impl Print) -> io::Result<()> {
+    text(rt, b":")
 }
 
-pub fn end() {
-    text(b"\n");
+pub fn end(rt: &impl Print) -> io::Result<()> {
+    text(rt, b"\n")
 }
 
 // A number after its name.
-pub fn named(name: &[u8], n: u16) {
-    text(name);
-    number(n);
+pub fn named(rt: &impl Print, name: &[u8], n: u16) -> io::Result<()> {
+    text(rt, name)?;
+    number(rt, n)
 }
 
 // A word after its name.
-pub fn named_word(name: &[u8], w: u16) {
-    text(name);
-    text(b" $");
-    hex(w);
+pub fn named_word(rt: &impl Print, name: &[u8], w: u16) -> io::Result<()> {
+    text(rt, name)?;
+    text(rt, b" $")?;
+    hex(rt, w)
 }
 
 // A number and a figure that belongs to it.
-pub fn pair(n: u16, figure: u16) {
-    number(n);
-    colon();
-    decimal(figure);
+pub fn pair(rt: &impl Print, n: u16, figure: u16) -> io::Result<()> {
+    number(rt, n)?;
+    colon(rt)?;
+    decimal(rt, figure)
 }
 
-pub fn route(name: &[u8], from: u16, to: u16) {
-    named(name, from);
-    named(b" to", to);
-    colon();
+pub fn route(rt: &impl Print, name: &[u8], from: u16, to: u16) -> io::Result<()> {
+    named(rt, name, from)?;
+    named(rt, b" to", to)?;
+    colon(rt)
 }
 
-fn hex(w: u16) {
+fn hex(rt: &impl Print, w: u16) -> io::Result<()> {
     let mut digits = [0u8; 4];
     printing::word(&mut digits, 0, w);
-    text(&digits);
+    text(rt, &digits)
 }
 
-pub fn either(on: bool, yes: &[u8], no: &[u8]) {
-    if on {
-        text(yes);
-    } else {
-        text(no);
-    }
+pub fn either(rt: &impl Print, on: bool, yes: &[u8], no: &[u8]) -> io::Result<()> {
+    if on { text(rt, yes) } else { text(rt, no) }
 }
 
-pub fn answer(w: Answered) {
-    colon();
+pub fn answer(rt: &impl Print, w: Answered) -> io::Result<()> {
+    colon(rt)?;
     let a = w.answer;
-    verdict(a);
-    end();
+    verdict(rt, a)?;
+    end(rt)
 }
 
 // Taken, or the number of the question that said no.
-fn verdict(a: Answer) {
+fn verdict(rt: &impl Print, a: Answer) -> io::Result<()> {
     match a {
-        Answer::Taken => text(b" taken"),
-        Answer::Refused(n) => refusal(n),
+        Answer::Taken => text(rt, b" taken"),
+        Answer::Refused(n) => refusal(rt, n),
     }
 }
 
-fn refusal(n: u8) {
-    named(b" N", n as u16);
+fn refusal(rt: &impl Print, n: u8) -> io::Result<()> {
+    named(rt, b" N", n as u16)
 }
 
 // The word that was read, or the refusal.
-pub fn reading(r: Reading) {
-    colon();
+pub fn reading(rt: &impl Print, r: Reading) -> io::Result<()> {
+    colon(rt)?;
     match r {
         Reading::Word(w) => {
-            text(b" ");
-            hex(w);
+            text(rt, b" ")?;
+            hex(rt, w)?;
         }
-        Reading::Refused(n) => refusal(n),
+        Reading::Refused(n) => refusal(rt, n)?,
     }
-    end();
+    end(rt)
 }
