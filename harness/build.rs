@@ -11,7 +11,7 @@ fn main() {
     let archive = folder.join("libtpu_c.a");
     println!("cargo:rerun-if-changed={}", archive.display());
     if !archive.exists() {
-        panic!("{} is missing: run rt staticlib tpu_c", archive.display());
+        panic!("{} is missing: run tools/build tpu_c", archive.display());
     }
     println!("cargo:rustc-link-search=native={}", folder.display());
     println!("cargo:rustc-link-lib=static=tpu_c");
