@@ -1,109 +1,87 @@
 // Which channels are bound, of the state that lent words hold, and the requests that bind them.
 #![tactic(auto)]
 
-ghost use Rattle.std.specs.Prelude.{◌≡◌, ℕ, ◌*◌, ◌<◌, ◌&&◌, ◌≢◌, leb, length};
+ghost use Rattle.std.specs.Prelude.{◌≡◌, ◌&&◌, leb, ℕ, IfSome, ◌*◌, ◌<◌, ◌≢◌};
 ghost use Rattle.words.specs.Choice.{pick};
 ghost use Rattle.words.specs.Field.{field};
-ghost use Rattle.motor.specs.Group.{bound};
-ghost use Rattle.unit.specs.TheUnit.{last, with_binding, stepping, is_bound};
+ghost use Rattle.unit.specs.TheUnit.{last, with_binding, stepping, reaches, is_bound};
 ghost use Rattle.unit.specs.Gate.{is_free, requested};
-ghost use Rattle.pack.specs.Packing.{state_words, state_in, Holds};
+ghost use Rattle.pack.specs.Packing.{state_in};
 
 use motor::Phase;
-
-// A phase in which the group is bound.
-fn bound(p: Phase) -> bool
-    ensures { result ≡ bound p }
-{
-    match p {
-        Phase::Resting => false,
-        Phase::Requested => true,
-        Phase::Armed(_) => true,
-        Phase::Matched(_, _) => true,
-    }
-}
+use pack::{ChannelNumber, Words};
 
 // The group of the primary c is bound.
-pub fn stepping(s: &[u16], c: u16) -> bool
-    requires { (length s.now ≡ state_words) × (c < 16) }
-    ensures { result ≡ stepping (state_in s.now) c }
+pub fn stepping(s: &Words, c: ChannelNumber) -> bool
+    ensures { result ≡ stepping (state_in s.now) c.number }
 {
-    bound(cells::phase(s, c))
+    !matches!(cells::phase(s, c), Phase::Resting)
 }
 
 // The group of p, bound or not, has the channel c.
-fn spans(s: &[u16], c: u16, p: u16) -> bool
-    requires { (length s.now ≡ state_words) × (p < 16) }
-    ensures { result ≡ (leb p c && leb c (last (state_in s.now) p)) }
+fn spans(s: &Words, c: u16, p: ChannelNumber) -> bool
+    ensures { result ≡ (leb p.number c && leb c (last (state_in s.now) p.number)) }
 {
-    if p <= c {
-        return c <= fields::last(s, p);
-    }
-    false
+    p.number <= c && c <= fields::last(s, p)
+}
+
+// It is bound and has it.
+fn reaches(s: &Words, c: u16, p: ChannelNumber) -> bool
+    ensures { result ≡ reaches (state_in s.now) c p.number }
+{
+    stepping(s, p) && spans(s, c, p)
 }
 
 // Some bound group has the channel c.
-fn is_bound(s: &[u16], c: u16) -> bool
-    requires { (length s.now ≡ state_words) × (c < 16) }
-    ensures { result ≡ is_bound (state_in s.now) c }
+fn is_bound(s: &Words, c: ChannelNumber) -> bool
+    ensures { result ≡ is_bound (state_in s.now) c.number }
 {
-    let mut found = stepping(s, c);
-    for p in 0..16 {
-        if stepping(s, p) {
-            if spans(s, c, p) {
-                found = true;
-            }
-        }
-    }
-    found
+    stepping(s, c)
+        || (0..16).any(
+            |p|
+                requires { p < 16 }
+            { reaches(s, c.number, ChannelNumber { number: p }) },
+        )
 }
 
-// Question 2: unbound and without a pending request.
-pub fn is_free(s: &[u16], c: u16) -> bool
-    requires { (length s.now ≡ state_words) × (c < 16) }
-    ensures { result ≡ is_free (state_in s.now) c }
+// Unbound and without a pending request.
+pub fn is_free(s: &Words, c: ChannelNumber) -> bool
+    ensures { result ≡ is_free (state_in s.now) c.number }
 {
-    if is_bound(s, c) {
-        return false;
-    }
-    registers::request(s, c) == 0
+    !is_bound(s, c) && registers::request(s, c) == 0
 }
 
 // A step request binds the group of c unless it is under way.
-fn bind_at_rest(s: &mut [u16], c: u16)
-    requires { (length s.old ≡ state_words) × (c < 16) }
-    ensures { Holds s.new (pick (stepping (state_in s.old) c) (state_in s.old) (with_binding (state_in s.old) c)) }
+fn bind_at_rest(s: &mut Words, c: ChannelNumber)
+    ensures { state_in s.new ≡ pick (stepping (state_in s.old) c.number) (state_in s.old) (with_binding (state_in s.old) c.number) }
 {
-    if stepping(s, c) {
-        return;
+    if !stepping(s, c) {
+        stores::bind(s, c);
     }
-    stores::bind(s, c);
 }
 
 // What a taken request of channel c does: 2 initialise, 3 step, which binds a group at rest.
-pub fn requested(s: &mut [u16], c: u16, r: u16)
-    requires { (length s.old ≡ state_words) × (c < 16) }
-    ensures { Holds s.new (requested (state_in s.old) c r) }
+pub fn requested(s: &mut Words, c: ChannelNumber, r: u16)
+    ensures { state_in s.new ≡ requested (state_in s.old) c.number r }
 {
-    if r == 2 {
-        registers::put_request(s, c, 2);
-        return;
+    match r {
+        2 => registers::put_request(s, c, 2),
+        3 => {
+            bind_at_rest(s, c);
+            registers::put_request(s, c, 3);
+        }
+        _ => {}
     }
-    if r != 3 {
-        return;
-    }
-    bind_at_rest(s, c);
-    registers::put_request(s, c, 3);
 }
 
-// The one channel that a word of requests asks, by its pair from the low end, or 8: most words ask one alone, and nothing needs to be tried
+// The one channel that a word of requests asks, by its pair from the low end: most words ask one alone, and nothing needs to be tried
 // out before it.
-pub fn lone(v: u16) -> u16
-    ensures { result < 8 → (k : ℕ) → k < 8 → k ≢ result → field 2 v (2 * k) ≡ 0 }
+pub fn lone(v: u16) -> Option<u16>
+    ensures { IfSome result (λ n. (n < 8) × ((k : ℕ) → k < 8 → k ≢ n → field 2 v (2 * k) ≡ 0)) }
 {
-    let k = u16::trailing_zeros(v) as u16 / 2;
-    if bitfield::with_pair(v, k, 0) != 0 {
-        return 8;
+    let k = v.trailing_zeros() as u16 / 2;
+    if k < 8 && bitfield::with_pair(v, k, 0) == 0 {
+        return Some(k);
     }
-    k
+    None
 }

@@ -1,18 +1,16 @@
 -- The block that is found is the best, and no other is.
-use Rattle.std.proofs.Common.{◌≡◌, ℕ, zero, suc, ◌+◌, ◌<◌, ◌≤◌, true, false, ◌&&◌, ltb, List, ap, subst, add-one, arith, below_more, ltb-false}
+use Rattle.std.proofs.Common.{◌≡◌, ℕ, Option, Some, None, zero, suc, ◌+◌, ◌<◌, ◌≤◌, true, false, ◌&&◌, ltb, List, ap, subst, add-one, arith, below_more, ltb-false}
 use Rattle.words.proofs.ChoiceLaws.{pick-cases, not-both, and_left, and_right, tests}
 use Rattle.blocks.specs.declared.Search.{Search}
-use Rattle.blocks.specs.declared.Found.{Found}
-use Rattle.blocks.specs.declared.Found.TheVariants.{At, Missing}
 use Rattle.blocks.specs.Blocks.{count}
 use Rattle.blocks.specs.Finding.{fits, rank, better, found_below, found}
 use Rattle.blocks.specs.Claims.{Best, Finds}
 
 -- a block that is not sought changes nothing
-pub unfit-stays : (b : List ℕ) (w : Search) (f : Found) (k : ℕ) → fits b w k ≡ false → better b w f k ≡ f
+pub unfit-stays : (b : List ℕ) (w : Search) (f : Option ℕ) (k : ℕ) → fits b w k ≡ false → better b w f k ≡ f
 unfolding better
-unfit-stays b w Missing k e = rw e
-unfit-stays b w (At j) k e = rw e
+unfit-stays b w None k e = rw e
+unfit-stays b w (Some j) k e = rw e
 
 -- `Best` among the first n blocks
 record BestBelow (b : List ℕ) (w : Search) (n k : ℕ) : Type 0 where
@@ -22,14 +20,14 @@ record BestBelow (b : List ℕ) (w : Search) (n k : ℕ) : Type 0 where
   first : (j : ℕ) → j < k → fits b w j ≡ true → rank b w j < rank b w k
 
 -- f is what is to be found among the first n blocks
-abbrev Right : List ℕ → Search → ℕ → Found → Type 0
-Right b w n (At k) = BestBelow b w n k
-Right b w n Missing = (j : ℕ) → j < n → fits b w j ≡ false
+abbrev Right : List ℕ → Search → ℕ → Option ℕ → Type 0
+Right b w n (Some k) = BestBelow b w n k
+Right b w n None = (j : ℕ) → j < n → fits b w j ≡ false
 
 -- one block more
-next : (b : List ℕ) (w : Search) (n : ℕ) (f : Found) → Right b w n f → Right b w (n + 1) (better b w f n)
+next : (b : List ℕ) (w : Search) (n : ℕ) (f : Option ℕ) → Right b w n f → Right b w (n + 1) (better b w f n)
 unfolding better
-next b w n Missing h =
+next b w n None h =
     pick-cases (Right b w (n + 1)) (fits b w n)
     (λ e. record {
       within = omega arith;
@@ -38,7 +36,7 @@ next b w n Missing h =
       first = λ j l s. absurd (not-both s (h j l));
     })
     (λ e. below_more _ n h e)
-next b w n (At k) h =
+next b w n (Some k) h =
     pick-cases (Right b w (n + 1)) (fits b w n && ltb (rank b w k) (rank b w n))
     (λ e.
     let above = and_right (fits b w n) (ltb (rank b w k) (rank b w n)) e in
@@ -64,21 +62,21 @@ found_right : (b : List ℕ) (w : Search) → Right b w (count b) (found b w)
 unfolding found
 found_right b w = right b w (count b)
 
-at : (b : List ℕ) (w : Search) (k : ℕ) → found b w ≡ At k → Best b w k
+at : (b : List ℕ) (w : Search) (k : ℕ) → found b w ≡ Some k → Best b w k
 at b w k e =
     let h : BestBelow b w (count b) k = subst (Right b w (count b)) e (found_right b w) in
     record { within = h.within; sought = h.sought; highest = h.highest; first = h.first }
 
-missing : (b : List ℕ) (w : Search) → found b w ≡ Missing → (j : ℕ) → j < count b → fits b w j ≡ false
+missing : (b : List ℕ) (w : Search) → found b w ≡ None → (j : ℕ) → j < count b → fits b w j ≡ false
 missing b w e = subst (Right b w (count b)) e (found_right b w)
 
 -- of two best blocks neither stands before the other
-only_one : (b : List ℕ) (w : Search) (k : ℕ) → Best b w k → (f : Found) → Right b w (count b) f → f ≡ At k
-only_one b w k best Missing h = absurd (not-both best.sought (h k best.within))
-only_one b w k best (At j) h =
+only_one : (b : List ℕ) (w : Search) (k : ℕ) → Best b w k → (f : Option ℕ) → Right b w (count b) f → f ≡ Some k
+only_one b w k best None h = absurd (not-both best.sought (h k best.within))
+only_one b w k best (Some j) h =
     let not-before : j < k → ⊥ = λ l. omega (arith, best.first j l h.sought, h.highest k best.within best.sought) in
     let not_behind : k < j → ⊥ = λ l. omega (arith, h.first k l best.sought, best.highest j h.within h.sought) in
-    ap At (omega arith)
+    ap Some (omega arith)
 
 pub finds : Finds
 finds = record { at = at; only = λ b w k best. only_one b w k best (found b w) (found_right b w); missing = missing }

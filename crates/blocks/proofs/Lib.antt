@@ -1,3 +1,4 @@
+pub mod RangeLaws
 pub mod FindingLaws
 pub mod SoundLaws
 pub mod WordLaws

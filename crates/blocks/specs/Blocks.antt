@@ -1,4 +1,4 @@
--- A store as bytes: blocks of 512, each of 256 words, high byte first. Paper 02, #102.
+-- A store as bytes: blocks of 512, each of 256 words, high byte first.
 use Rattle.std.specs.Prelude.{ℕ, zero, suc, ◌+◌, ◌-◌, ◌*◌, ◌/◌, ◌%◌, Bool, ◌&&◌, List, length, ◌==◌, nat_le, slice_index, slice_set}
 use Rattle.words.specs.Choice.{pick}
 

@@ -1,7 +1,6 @@
--- What holds of every store. Paper 02, #102.
-use Rattle.std.specs.Prelude.{◌≡◌, ℕ, ◌%◌, ◌<◌, ◌≤◌, true, false, ◌≢◌, List, slice_index}
+-- What holds of every store.
+use Rattle.std.specs.Prelude.{◌≡◌, ℕ, Some, None, ◌%◌, ◌<◌, ◌≤◌, true, false, ◌≢◌, List, slice_index}
 use Rattle.blocks.specs.declared.Search.{Search}
-use Rattle.blocks.specs.declared.Found.TheVariants.{At, Missing}
 use Rattle.blocks.specs.Blocks.{count, word_in, sum, is_sound}
 use Rattle.blocks.specs.Finding.{fits, rank, found}
 
@@ -33,6 +32,6 @@ pub record Best (b : List ℕ) (w : Search) (k : ℕ) : Type 0 where
   pub first : (j : ℕ) → j < k → fits b w j ≡ true → rank b w j < rank b w k
 
 pub record Finds : Type 0 where
-  pub at : (b : List ℕ) (w : Search) (k : ℕ) → found b w ≡ At k → Best b w k
-  pub only : (b : List ℕ) (w : Search) (k : ℕ) → Best b w k → found b w ≡ At k
-  pub missing : (b : List ℕ) (w : Search) → found b w ≡ Missing → (j : ℕ) → j < count b → fits b w j ≡ false
+  pub at : (b : List ℕ) (w : Search) (k : ℕ) → found b w ≡ Some k → Best b w k
+  pub only : (b : List ℕ) (w : Search) (k : ℕ) → Best b w k → found b w ≡ Some k
+  pub missing : (b : List ℕ) (w : Search) → found b w ≡ None → (j : ℕ) → j < count b → fits b w j ≡ false

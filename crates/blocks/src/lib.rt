@@ -1,4 +1,4 @@
-// A store of 2 to 128 blocks of 512 bytes: words, soundness, and which block is sought. Paper 02, #102.
+// A store of 2 to 128 blocks of 512 bytes: words, soundness, and which block is sought.
 #![tactic(auto)]
 
 ghost use Rattle.std.specs.Prelude.{◌≡◌, ◌%◌, slice_index, slice_set};
@@ -6,7 +6,7 @@ ghost use Rattle.blocks.specs.Blocks.{count, word_in, with_word, version, sum, i
 ghost use Rattle.blocks.specs.Finding.{fits, rank, better, found};
 
 // What is sought: the newest sound block, one of a named version, the oldest sound one, or one that is not sound.
-#[derive(Clone, Copy)]
+#[derive(Clone, Copy, PartialEq, Eq, Debug)]
 pub enum Search {
     Newest,
     Named(u32),
@@ -14,23 +14,14 @@ pub enum Search {
     Unsound,
 }
 
-#[derive(Clone, Copy)]
-pub enum Found {
-    At(u8),
-    Missing,
-}
-
 // How many blocks there are; none in bytes that are not 2 to 128 whole blocks.
+#[tactic(auto, unfolding(crate::specs::Blocks::is_store, crate::specs::Blocks::count))]
 pub fn count(store: &[u8]) -> u8
     ensures { result ≡ count store.now }
 {
     let n = store.len() / 512;
-    if store.len() % 512 == 0 {
-        if 2 <= n {
-            if n <= 128 {
-                return n as u8;
-            }
-        }
+    if store.len() % 512 == 0 && 2 <= n && n <= 128 {
+        return n as u8;
     }
     0
 }
@@ -39,20 +30,16 @@ pub fn count(store: &[u8]) -> u8
 fn byte(store: &[u8], at: usize) -> u8
     ensures { result ≡ slice_index store.now at }
 {
-    if at < store.len() {
-        return store[at];
-    }
-    0
+    store.get(at).copied().unwrap_or(0)
 }
 
 // Word i of block k, high byte first.
+#[tactic(auto, unfolding(crate::specs::Blocks::word_in))]
 pub fn word(store: &[u8], k: u8, i: u8) -> u16
     ensures { result ≡ word_in store.now k i }
 {
     let at = 512 * (k as usize) + 2 * (i as usize);
-    let high = byte(store, at);
-    let low = byte(store, at + 1);
-    256 * (high as u16) + low as u16
+    u16::from_be_bytes([byte(store, at), byte(store, at + 1)])
 }
 
 // Where there is no such byte nothing is put.
@@ -64,14 +51,17 @@ fn put_byte(store: &mut [u8], at: usize, x: u8)
     }
 }
 
+#[tactic(auto, unfolding(crate::specs::Blocks::with_word))]
 pub fn put(store: &mut [u8], k: u8, i: u8, w: u16)
     ensures { store.new ≡ with_word store.old k i w }
 {
     let at = 512 * (k as usize) + 2 * (i as usize);
-    put_byte(store, at, (w / 256) as u8);
-    put_byte(store, at + 1, (w % 256) as u8);
+    let [high, low] = w.to_be_bytes();
+    put_byte(store, at, high);
+    put_byte(store, at + 1, low);
 }
 
+#[tactic(auto, unfolding(crate::specs::Blocks::version))]
 pub fn version(store: &[u8], k: u8) -> u32
     ensures { result ≡ version store.now k }
 {
@@ -84,31 +74,30 @@ pub fn version(store: &[u8], k: u8) -> u32
 fn total(store: &[u8], k: u8) -> u16
     ensures { result ≡ sum (word_in store.now k) 255 % 65536 }
 {
-    let mut t: u16 = 0;
-    for i in 0..255 {
-        t = std::num::wrapping_add_u16(t, word(store, k, i));
-    }
-    t
+    (0..255).fold(0, |t: u16, i| t.wrapping_add(word(store, k, i)))
 }
 
+#[tactic(auto, unfolding(crate::specs::Blocks::is_sound, crate::specs::Blocks::check_word))]
 pub fn is_sound(store: &[u8], k: u8) -> bool
     ensures { result ≡ is_sound store.now k }
 {
     word(store, k, 255) == 0xffff - total(store, k)
 }
 
+#[tactic(auto, unfolding(crate::specs::Finding::fits))]
 fn fits(store: &[u8], w: Search, k: u8) -> bool
     ensures { result ≡ fits store.now w k }
 {
     let sound = is_sound(store, k);
     match w {
         Search::Newest => sound,
-        Search::Named(v) => sound & (version(store, k) == v),
+        Search::Named(v) => sound && version(store, k) == v,
         Search::Oldest => sound,
         Search::Unsound => !sound,
     }
 }
 
+#[tactic(auto, unfolding(crate::specs::Finding::rank))]
 fn rank(store: &[u8], w: Search, k: u8) -> u32
     ensures { result ≡ rank store.now w k }
 {
@@ -121,30 +110,23 @@ fn rank(store: &[u8], w: Search, k: u8) -> u32
 }
 
 // The best so far, or block k behind it.
-fn better(store: &[u8], w: Search, best: Found, k: u8) -> Found
+fn better(store: &[u8], w: Search, best: Option<u8>, k: u8) -> Option<u8>
     ensures { result ≡ better store.now w best k }
 {
     if !fits(store, w, k) {
         return best;
     }
+    let here = rank(store, w, k);
     match best {
-        Found::Missing => Found::At(k),
-        Found::At(j) => {
-            if rank(store, w, j) < rank(store, w, k) {
-                return Found::At(k);
-            }
-            Found::At(j)
-        }
+        None => Some(k),
+        Some(j) if here <= rank(store, w, j) => best,
+        Some(_) => Some(k),
     }
 }
 
 // The first block of the greatest rank among those that are sought.
-pub fn find(store: &[u8], w: Search) -> Found
+pub fn find(store: &[u8], w: Search) -> Option<u8>
     ensures { result ≡ found store.now w }
 {
-    let mut best = Found::Missing;
-    for k in 0..count(store) {
-        best = better(store, w, best, k);
-    }
-    best
+    (0..count(store)).fold(None, |best, k| better(store, w, best, k))
 }

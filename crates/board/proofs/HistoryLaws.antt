@@ -1,4 +1,5 @@
 -- Every history of a board comes to a list of the unit's calls: `board-history`.
+use Rattle.std.proofs.Common.{Result, Ok, Err}
 use Prim.Native.Nat.{ℕ, zero, suc, ◌+◌}
 use mathlib.Core.Bool.{Bool, true, false}
 use mathlib.Core.List.{List, [], ◌∷◌, ◌++◌, append_assoc}
@@ -13,8 +14,7 @@ use Rattle.history.proofs.Listed.{term-3-of, always-of, slow-moves-of, served-wi
 use Rattle.isolation.proofs.OneMove.{one-move-of}
 use Rattle.blocks.specs.Claims.{Bytes}
 use Rattle.blocks.proofs.SoundLaws.{word_fits}
-use Rattle.keeping.specs.declared.Chosen.{Chosen}
-use Rattle.keeping.specs.declared.Chosen.TheVariants.{No, Block}
+use Rattle.keeping.specs.declared.Refusal.{Refusal}
 use Rattle.keeping.specs.declared.Loaded.{Loaded}
 use Rattle.keeping.specs.Layout.{settings, setting_writes, load_calls}
 use Rattle.keeping.specs.Keeping.{chosen, all_free, load_from, load_of}
@@ -30,10 +30,10 @@ unfolding ask run
 asked-plays s true refusal taken xs e f = f
 asked-plays s false refusal taken xs e f = e
 
-load-plays : (s : State) (b : List ℕ) (x : Chosen) → (load_from s b x).state ≡ run s (played s b x)
+load-plays : (s : State) (b : List ℕ) (x : Result ℕ Refusal) → (load_from s b x).state ≡ run s (played s b x)
 unfolding load_from played run
-load-plays s b (No n) = refl
-load-plays s b (Block k) = asked-plays s (all_free s) _ _ (load_calls b k) refl refl
+load-plays s b (Err r) = refl
+load-plays s b (Ok k) = asked-plays s (all_free s) _ _ (load_calls b k) refl refl
 
 call-plays : (x : BoardCall) (s : State) → after x s ≡ run s (unit_calls x s)
 unfolding after unit_calls run load_of
@@ -67,10 +67,10 @@ unfolding setting_writes Typed
 writes_typed b k zero h = tt
 writes_typed b k (suc n) h = typed-append (setting_writes b k n) _ (writes_typed b k n h) (word_fits b k (3 + n) h, tt)
 
-played-typed : (s : State) (b : List ℕ) (x : Chosen) → Bytes b → Typed (played s b x)
+played-typed : (s : State) (b : List ℕ) (x : Result ℕ Refusal) → Bytes b → Typed (played s b x)
 unfolding played Typed load_calls
-played-typed s b (No n) h = tt
-played-typed s b (Block k) h = pick-cases Typed (all_free s) (λ t. writes_typed b k settings h) (λ t. tt)
+played-typed s b (Err r) h = tt
+played-typed s b (Ok k) h = pick-cases Typed (all_free s) (λ t. writes_typed b k settings h) (λ t. tt)
 
 all_typed : (xs : List BoardCall) (s : State) → TypedBoard xs → Typed (all_calls s xs)
 unfolding TypedBoard all_calls unit_calls Typed

@@ -1,4 +1,5 @@
 -- A load, setting by setting: `loads`.
+use Rattle.std.proofs.Common.{Option, Some, None, Result, Ok, Err}
 use Prim.Native.Nat.{ℕ, zero, suc, ◌+◌, ◌-◌, ◌*◌, ◌/◌, ◌%◌, ◌≤◌, ◌<◌}
 use native.Mathlib.Omega.{arith}
 use native.Mathlib.Nat.{eq-or-lt_of_le}
@@ -13,7 +14,6 @@ use Rattle.words.specs.Field.{field}
 use Rattle.words.proofs.ChoiceLaws.{not-both, fails, ask-cases}
 use Rattle.unit.specs.declared.State.{State}
 use Rattle.unit.specs.declared.Place.TheVariants.{AtWord}
-use Rattle.unit.specs.declared.Answer.TheVariants.{Taken as Accepted}
 use Rattle.unit.specs.declared.Answered.{Answered}
 use Rattle.unit.specs.TheUnit.{Whole, reg, channel, is_bound}
 use Rattle.unit.specs.Gate.{place}
@@ -21,18 +21,14 @@ use Rattle.unit.specs.Calls.{word_at, is_taken, write_of, run}
 use Rattle.unit.specs.Calls as calls
 use Rattle.unit.specs.Takes.{Free}
 use Rattle.unit.proofs.Reset.{Sized}
-use Rattle.blocks.specs.declared.Found.{Found}
-use Rattle.blocks.specs.declared.Found.TheVariants.{At, Missing}
 use Rattle.blocks.specs.Blocks.{word_in, version}
 use Rattle.blocks.specs.Finding.{found}
-use Rattle.keeping.specs.declared.Kept.{Kept}
-use Rattle.keeping.specs.declared.Kept.TheVariants.{Taken, Refused}
+use Rattle.keeping.specs.declared.Refusal.{Refusal}
+use Rattle.keeping.specs.declared.Refusal.TheVariants.{NotFree, NoVersion, UnknownLayout}
 use Rattle.keeping.specs.declared.Which.{Which}
-use Rattle.keeping.specs.declared.Chosen.{Chosen}
-use Rattle.keeping.specs.declared.Chosen.TheVariants.{No, Block}
 use Rattle.keeping.specs.declared.Loaded.{Loaded}
 use Rattle.keeping.specs.Layout.{settings, setting_address, setting, known_layout, setting_writes, load_calls}
-use Rattle.keeping.specs.Keeping.{sought, chosen_in, chosen, all_free, load_from, load_of}
+use Rattle.keeping.specs.Keeping.{refusal_number, sought, chosen_in, chosen, all_free, load_from, load_of}
 use Rattle.keeping.proofs.LayoutLaws.{run-append}
 use Rattle.keeping.proofs.KeepingLaws.{all-free, free_all}
 use Rattle.board.specs.Loads.{SettingAt, Leaves, AllFree, Loads}
@@ -60,7 +56,7 @@ module _ (b : List ℕ) (k : ℕ) where
 
   -- the next write is taken
   next-taken : (n : ℕ) (s : State) → n < settings → Still s
-      → write_of (puts n s) (setting_address n) (word_in b k (3 + n)) ≡ record { answer = Accepted; state = puts (suc n) s }
+      → write_of (puts n s) (setting_address n) (word_in b k (3 + n)) ≡ record { answer = Ok tt; state = puts (suc n) s }
   unfolding puts
   next-taken n s h f =
       write-taken (puts n s) (setting_address n) (word_in b k (3 + n))
@@ -162,21 +158,21 @@ module _ (b : List ℕ) (k : ℕ) where
 
 -- ---- its answer
 
-missing-no : (s : State) (w : Which) (b : List ℕ) → found b (sought w) ≡ Missing → (load_of s w b).answer ≡ Refused 12
+missing-no : (s : State) (w : Which) (b : List ℕ) → found b (sought w) ≡ None → (load_of s w b).answer ≡ Err NoVersion
 unfolding load_of load_from chosen chosen_in
 missing-no s w b e = rw e refl
 
-layout-no : (s : State) (w : Which) (b : List ℕ) (k : ℕ) → found b (sought w) ≡ At k → word_in b k 0 ≢ 1 → (load_of s w b).answer ≡ Refused 13
+layout-no : (s : State) (w : Which) (b : List ℕ) (k : ℕ) → found b (sought w) ≡ Some k → word_in b k 0 ≢ 1 → (load_of s w b).answer ≡ Err UnknownLayout
 unfolding load_of load_from chosen chosen_in ask
 layout-no s w b k e other = rw (e, ne_eqb (word_in b k 0) 1 other) refl
 
-bound-no : (s : State) (w : Which) (b : List ℕ) (k : ℕ) → found b (sought w) ≡ At k → word_in b k 0 ≡ 1 → all_free s ≡ false
-    → (load_of s w b).answer ≡ Refused 2
+bound-no : (s : State) (w : Which) (b : List ℕ) (k : ℕ) → found b (sought w) ≡ Some k → word_in b k 0 ≡ 1 → all_free s ≡ false
+    → (load_of s w b).answer ≡ Err NotFree
 unfolding load_of load_from chosen chosen_in ask
 bound-no s w b k e one f = rw (e, one, f) refl
 
-pub load-taken : (s : State) (w : Which) (b : List ℕ) (k : ℕ) → found b (sought w) ≡ At k → word_in b k 0 ≡ 1 → AllFree s
-    → load_of s w b ≡ record { answer = Taken (version b k); state = run s (load_calls b k) }
+pub load-taken : (s : State) (w : Which) (b : List ℕ) (k : ℕ) → found b (sought w) ≡ Some k → word_in b k 0 ≡ 1 → AllFree s
+    → load_of s w b ≡ record { answer = Ok (version b k); state = run s (load_calls b k) }
 unfolding load_of load_from chosen chosen_in ask AllFree
 load-taken s w b k e one f = rw (e, one, free_all s f) refl
 
@@ -190,44 +186,45 @@ not-all-free s c h why =
 
 -- ---- a refused load
 
--- a Taken is no Refused
-unlike : {v n : ℕ} → ◌≡◌ {A = Kept} (Taken v) (Refused n) → ⊥
+-- an Ok is no Err
+unlike : {v : ℕ} {r : Refusal} → ◌≡◌ {A = Result ℕ Refusal} (Ok v) (Err r) → ⊥
 unlike e = let z : ◌≡◌ {A = ℕ} 0 1 = cc in omega arith
 
-same_number : {m n : ℕ} → ◌≡◌ {A = Kept} (Refused m) (Refused n) → n ≡ m
-same_number e = cc
+same_number : {q r : Refusal} → ◌≡◌ {A = Result ℕ Refusal} (Err q) (Err r) → refusal_number r ≡ refusal_number q
+same_number {q} {r} e = let same : r ≡ q = cc in ap refusal_number same
 
 -- the number is the store's own or 2, and the state is kept
-asked-refuses : (s : State) (q : Bool) (t : State) (v n : ℕ)
-    → (ask {A = Loaded} q record { answer = Refused 2; state = s } record { answer = Taken v; state = t }).answer ≡ Refused n
-    → (n ≡ 2) × ((ask {A = Loaded} q record { answer = Refused 2; state = s } record { answer = Taken v; state = t }).state ≡ s)
+asked-refuses : (s : State) (q : Bool) (t : State) (v : ℕ) (r : Refusal)
+    → (ask {A = Loaded} q record { answer = Err NotFree; state = s } record { answer = Ok v; state = t }).answer ≡ Err r
+    → (refusal_number r ≡ 2) × ((ask {A = Loaded} q record { answer = Err NotFree; state = s } record { answer = Ok v; state = t }).state ≡ s)
 unfolding ask
-asked-refuses s true t v n e = absurd (unlike e)
-asked-refuses s false t v n e = (same_number e, refl)
+asked-refuses s true t v r e = absurd (unlike e)
+asked-refuses s false t v r e = (same_number e, refl)
 
 -- the store's own nos
-own-number : (b : List ℕ) (f : Found) (m : ℕ) → chosen_in b f ≡ No m → (m ≡ 12) ⊎ (m ≡ 13)
+own-number : (b : List ℕ) (f : Option ℕ) (r : Refusal) → chosen_in b f ≡ Err r → (refusal_number r ≡ 12) ⊎ (refusal_number r ≡ 13)
 unfolding chosen_in
-own-number b Missing m = λ e. inl cc
-own-number b (At k) m =
-    ask-cases (λ (x : Chosen). x ≡ No m → (m ≡ 12) ⊎ (m ≡ 13)) (eqb (word_in b k 0) known_layout) (No 13) (Block k)
-    (λ e. inr cc)
-    (λ q e. let z : ◌≡◌ {A = ℕ} 0 1 = cc in absurd (omega arith))
+own-number b None r = λ e. inl (same_number e)
+own-number b (Some k) r =
+    ask-cases (λ (x : Result ℕ Refusal). x ≡ Err r → (refusal_number r ≡ 12) ⊎ (refusal_number r ≡ 13))
+    (eqb (word_in b k 0) known_layout) (Err UnknownLayout) (Ok k)
+    (λ e. inr (same_number e))
+    (λ q e. absurd (unlike e))
 
-refused-by : (s : State) (b : List ℕ) (f : Found) (x : Chosen) (n : ℕ) → chosen_in b f ≡ x → (load_from s b x).answer ≡ Refused n
-    → ((n ≡ 12) ⊎ ((n ≡ 13) ⊎ (n ≡ 2))) × ((load_from s b x).state ≡ s)
+refused-by : (s : State) (b : List ℕ) (f : Option ℕ) (x : Result ℕ Refusal) (r : Refusal) → chosen_in b f ≡ x → (load_from s b x).answer ≡ Err r
+    → ((refusal_number r ≡ 12) ⊎ ((refusal_number r ≡ 13) ⊎ (refusal_number r ≡ 2))) × ((load_from s b x).state ≡ s)
 unfolding load_from
-refused-by s b f (No m) n e r =
-    let same = same_number r in
-    (⊎_elim (λ h. inl (same ∙ h)) (λ h. inr (inl (same ∙ h))) (own-number b f m e), refl)
-refused-by s b f (Block k) n e r =
-    let h = asked-refuses s (all_free s) _ _ n r in
-    (inr (inr h.0), h.1)
+refused-by s b f (Err q) r e h =
+    let same = same_number h in
+    (⊎_elim (λ n. inl (same ∙ n)) (λ n. inr (inl (same ∙ n))) (own-number b f q e), refl)
+refused-by s b f (Ok k) r e h =
+    let refused = asked-refuses s (all_free s) _ _ r h in
+    (inr (inr refused.0), refused.1)
 
-load-refused : (s : State) (w : Which) (b : List ℕ) (n : ℕ) → (load_of s w b).answer ≡ Refused n
-    → ((n ≡ 12) ⊎ ((n ≡ 13) ⊎ (n ≡ 2))) × ((load_of s w b).state ≡ s)
+load-refused : (s : State) (w : Which) (b : List ℕ) (r : Refusal) → (load_of s w b).answer ≡ Err r
+    → ((refusal_number r ≡ 12) ⊎ ((refusal_number r ≡ 13) ⊎ (refusal_number r ≡ 2))) × ((load_of s w b).state ≡ s)
 unfolding load_of chosen
-load-refused s w b n e = refused-by s b (found b (sought w)) (chosen b w) n refl e
+load-refused s w b r e = refused-by s b (found b (sought w)) (chosen b w) r refl e
 
 pub loads : Loads
 loads =
@@ -240,6 +237,6 @@ loads =
       layout = λ s w b k x other. layout-no s w b k (to-load-found b w k x) other;
       question-2 = λ s w b k c x one h why. bound-no s w b k (to-load-found b w k x) one (not-all-free s c h why);
       taken = λ s w b k x one f. load-taken s w b k (to-load-found b w k x) one f;
-      numbers = λ s w b n e. (load-refused s w b n e).0;
-      refused = λ s w b n e. (load-refused s w b n e).1;
+      numbers = λ s w b r e. (load-refused s w b r e).0;
+      refused = λ s w b r e. (load-refused s w b r e).1;
     }

@@ -1,26 +1,25 @@
 -- Which block a save writes, and where the newest version is kept meanwhile.
+use Rattle.std.proofs.Common.{Option, Some, None, Result, Ok, Err}
 use Prim.Native.Nat.{ℕ, suc, ◌-◌, ◌≤◌, ◌<◌}
 use native.Mathlib.Omega.{arith}
 use mathlib.Core.Bool.{Bool, true, false}
 use mathlib.Core.List.{List}
 use mathlib.Core.Logic.{◌≢◌, ◌⊎◌, inl, inr, ⊎_elim}
-use mathlib.Core.Path.{◌≡◌, refl, sym}
+use mathlib.Core.Path.{◌≡◌, refl, sym, ap}
 use lib.Dec.{ltb, eqb}
 use lib.ListN.{length}
 use borrow.Author.Tests.{ltb-true, eqb-true, eqb-false, not-true, not-false}
 use Rattle.words.proofs.ChoiceLaws.{pick-cases, not-both, and_left, and_right}
 use Rattle.unit.specs.declared.State.{State}
 use Rattle.blocks.specs.declared.Search.TheVariants.{Newest, Oldest, Unsound}
-use Rattle.blocks.specs.declared.Found.{Found}
-use Rattle.blocks.specs.declared.Found.TheVariants.{At, Missing}
 use Rattle.blocks.specs.Blocks.{is_store, count, laid, version, is_sound}
 use Rattle.blocks.specs.Finding.{fits, rank, found}
 use Rattle.blocks.proofs.WordLaws.{laid-length, count-length, count-store}
 use Rattle.blocks.proofs.FindingLaws.{finds}
-use Rattle.keeping.specs.declared.Kept.{Kept}
-use Rattle.keeping.specs.declared.Kept.TheVariants.{Taken, Refused}
+use Rattle.keeping.specs.declared.Refusal.{Refusal}
+use Rattle.keeping.specs.declared.Refusal.TheVariants.{NoVersion}
 use Rattle.keeping.specs.Layout.{block_word}
-use Rattle.keeping.specs.Keeping.{version_at, greatest, or_oldest, block_at, place_of, may_save, save_of, store_after}
+use Rattle.keeping.specs.Keeping.{refusal_number, version_at, greatest, or_oldest, block_at, place_of, may_save, save_of, store_after}
 use Rattle.board.specs.Saves.{Elsewhere}
 
 pub same-or-other : (j k : ℕ) → (j ≡ k) ⊎ (j ≢ k)
@@ -48,19 +47,19 @@ next_of b v e n = record {
   next = n;
 }
 
-pub taken_next : (b : List ℕ) (v : ℕ) → save_of b ≡ Taken v → Next b v
+pub taken_next : (b : List ℕ) (v : ℕ) → save_of b ≡ Ok v → Next b v
 unfolding save_of
 taken_next b v =
-    pick-cases (λ (r : Kept). r ≡ Taken v → Next b v) (may_save b)
+    pick-cases (λ (r : Result ℕ Refusal). r ≡ Ok v → Next b v) (may_save b)
     (λ may e. next_of b v may (cc))
     (λ may e. let z : ◌≡◌ {A = ℕ} 0 1 = cc in absurd (omega arith))
 
-pub refused-not : (b : List ℕ) (n : ℕ) → save_of b ≡ Refused n → (may_save b ≡ false) × (n ≡ 12)
+pub refused-not : (b : List ℕ) (r : Refusal) → save_of b ≡ Err r → (may_save b ≡ false) × (refusal_number r ≡ 12)
 unfolding save_of
-refused-not b n =
-    pick-cases (λ (r : Kept). r ≡ Refused n → (may_save b ≡ false) × (n ≡ 12)) (may_save b)
+refused-not b r =
+    pick-cases (λ (x : Result ℕ Refusal). x ≡ Err r → (may_save b ≡ false) × (refusal_number r ≡ 12)) (may_save b)
     (λ may e. let z : ◌≡◌ {A = ℕ} 0 1 = cc in absurd (omega arith))
-    (λ may e. (may, cc))
+    (λ may e. let no : r ≡ NoVersion = cc in (may, ap refusal_number no))
 
 pub after-taken : (s : State) (b : List ℕ) (v : ℕ) → Next b v → store_after s b ≡ laid (block_word s v) b (place_of b) 256
 unfolding store_after
@@ -86,13 +85,13 @@ pub below-greatest : (b : List ℕ) (j : ℕ) → j < count b → is_sound b j �
 unfolding greatest version_at fits rank
 below-greatest b j l sound = told (found b Newest) refl
   where
-    told : (f : Found) → found b Newest ≡ f → version b j ≤ version_at b f
-    told (At k) e = (finds.at b Newest k e).highest j l sound
-    told Missing e = absurd (not-both sound (finds.missing b Newest e j l))
+    told : (f : Option ℕ) → found b Newest ≡ f → version b j ≤ version_at b f
+    told (Some k) e = (finds.at b Newest k e).highest j l sound
+    told None e = absurd (not-both sound (finds.missing b Newest e j l))
 
 -- ---- the block that is written
 
-all_sound : (b : List ℕ) → found b Unsound ≡ Missing → (j : ℕ) → j < count b → is_sound b j ≡ true
+all_sound : (b : List ℕ) → found b Unsound ≡ None → (j : ℕ) → j < count b → is_sound b j ≡ true
 unfolding fits
 all_sound b e j l = not-false (is_sound b j) (finds.missing b Unsound e j l)
 
@@ -102,10 +101,10 @@ pub record Worst (b : List ℕ) (k : ℕ) : Type 0 where
   pub sound : (j : ℕ) → is_sound b k ≡ true → j < count b → is_sound b j ≡ true
   pub smallest : (j : ℕ) → is_sound b k ≡ true → j < count b → 0xffffffff - version b j ≤ 0xffffffff - version b k
 
-worst-found : (b : List ℕ) → is_store b ≡ true → (f g : Found) → found b Unsound ≡ f → found b Oldest ≡ g
+worst-found : (b : List ℕ) → is_store b ≡ true → (f g : Option ℕ) → found b Unsound ≡ f → found b Oldest ≡ g
     → Worst b (block_at (or_oldest b f))
 unfolding or_oldest block_at fits rank
-worst-found b store (At k) g e h =
+worst-found b store (Some k) g e h =
     let best = finds.at b Unsound k e in
     let not_sound : is_sound b k ≡ true → ⊥ = λ sound. not-both sound (not-true (is_sound b k) best.sought) in
     record {
@@ -113,14 +112,14 @@ worst-found b store (At k) g e h =
       sound = λ j sound l. absurd (not_sound sound);
       smallest = λ j sound l. absurd (not_sound sound);
     }
-worst-found b store Missing (At k) e h =
+worst-found b store None (Some k) e h =
     let best = finds.at b Oldest k h in
     rw h record {
       within = best.within;
       sound = λ j sound l. all_sound b e j l;
       smallest = λ j sound l. omega (arith, best.highest j l (all_sound b e j l));
     }
-worst-found b store Missing Missing e h =
+worst-found b store None None e h =
     let l : 0 < count b = omega (arith, count-store b store) in
     absurd (not-both (all_sound b e 0 l) (finds.missing b Oldest h 0 l))
 
@@ -131,7 +130,7 @@ worst b store = worst-found b store (found b Unsound) (found b Oldest) refl refl
 -- ---- the newest version before the save
 
 -- where its block k is written, any other block has it too
-beside : (b : List ℕ) (k v j : ℕ) → Next b v → found b Newest ≡ At k → k ≡ place_of b → j < count b → j ≢ k
+beside : (b : List ℕ) (k v j : ℕ) → Next b v → found b Newest ≡ Some k → k ≡ place_of b → j < count b → j ≢ k
     → Elsewhere b (version b k)
 unfolding fits rank
 beside b k v j n e same l other =
@@ -147,7 +146,7 @@ beside b k v j n e same l other =
       named = omega (arith, w.smallest j best.sought l, best.highest j l sound);
     }
 
-pub elsewhere : (b : List ℕ) (k v : ℕ) → Next b v → found b Newest ≡ At k → Elsewhere b (version b k)
+pub elsewhere : (b : List ℕ) (k v : ℕ) → Next b v → found b Newest ≡ Some k → Elsewhere b (version b k)
 unfolding fits
 elsewhere b k v n e =
     let best = finds.at b Newest k e in

@@ -1,4 +1,5 @@
 -- A load takes the block that a save wrote, and brings back what it holds.
+use Rattle.std.proofs.Common.{Some, Result, Ok, Err}
 use Prim.Native.Nat.{ℕ, ◌+◌, ◌-◌, ◌<◌}
 use native.Mathlib.Omega.{arith}
 use mathlib.Core.Bool.{true, false}
@@ -10,12 +11,10 @@ use borrow.Author.Tests.{lt-ltb, eq-eqb, ne_eqb, eqb-true}
 use Rattle.words.proofs.ChoiceLaws.{and_left, and_right}
 use Rattle.unit.specs.declared.State.{State}
 use Rattle.blocks.specs.declared.Search.TheVariants.{Newest, Named}
-use Rattle.blocks.specs.declared.Found.TheVariants.{At}
 use Rattle.blocks.specs.Blocks.{count, word_in, version, is_sound}
 use Rattle.blocks.specs.Finding.{fits, rank, found}
 use Rattle.blocks.proofs.FindingLaws.{finds}
-use Rattle.keeping.specs.declared.Kept.{Kept}
-use Rattle.keeping.specs.declared.Kept.TheVariants.{Taken, Refused}
+use Rattle.keeping.specs.declared.Refusal.{Refusal}
 use Rattle.keeping.specs.declared.Which.{Which}
 use Rattle.keeping.specs.declared.Which.TheVariants.{Latest, Version}
 use Rattle.keeping.specs.Layout.{settings, setting, held_word, block_word}
@@ -64,7 +63,7 @@ named-version b v k fit = eqb-true (version b k) v (and_right (is_sound b k) (eq
 
 -- the first sound block of a version is the one that is found by its number
 named-first : (b : List ℕ) (v k : ℕ) → k < count b → fits b (Named v) k ≡ true → ((j : ℕ) → j < k → fits b (Named v) j ≡ true → ⊥)
-    → found b (Named v) ≡ At k
+    → found b (Named v) ≡ Some k
 unfolding rank
 named-first b v k l fit first =
     finds.only b (Named v) k
@@ -73,7 +72,7 @@ named-first b v k l fit first =
 -- ---- right after a save
 
 module _ (s : State) (b : List ℕ) (v : ℕ) (is : SaveIs s b v) where
-  newest-written : found (store_after s b) Newest ≡ At (place_of b)
+  newest-written : found (store_after s b) Newest ≡ Some (place_of b)
   unfolding fits rank
   newest-written =
       let c = store_after s b in
@@ -89,7 +88,7 @@ module _ (s : State) (b : List ℕ) (v : ℕ) (is : SaveIs s b v) where
         first = λ j l sound. omega (arith, is.named, older s b v is j (omega (arith, is.within)) (λ e. omega arith) sound);
       }
 
-  named-written : found (store_after s b) (Named v) ≡ At (place_of b)
+  named-written : found (store_after s b) (Named v) ≡ Some (place_of b)
   named-written =
       let c = store_after s b in
       let k = place_of b in
@@ -98,7 +97,7 @@ module _ (s : State) (b : List ℕ) (v : ℕ) (is : SaveIs s b v) where
       let before = older s b v is j (omega (arith, is.within)) (λ e. omega arith) (named-sound c v j fit) in
       omega (arith, named-version c v j fit))
 
-  written-found : (w : Which) → (w ≡ Latest) ⊎ (w ≡ Version v) → found (store_after s b) (sought w) ≡ At (place_of b)
+  written-found : (w : Which) → (w ≡ Latest) ⊎ (w ≡ Version v) → found (store_after s b) (sought w) ≡ Some (place_of b)
   unfolding sought
   written-found w which = ⊎_elim (λ e. rw e newest-written) (λ e. rw e named-written) which
 
@@ -109,8 +108,8 @@ named-same : (b c : List ℕ) (v j : ℕ) → is_sound c j ≡ is_sound b j → 
 unfolding fits
 named-same b c v j sound e = rw (sound, e)
 
-named-stays : (u : State) (b : List ℕ) (v k x : ℕ) → SaveIs u b x → found b (Named v) ≡ At k → k ≢ place_of b
-    → found (store_after u b) (Named v) ≡ At k
+named-stays : (u : State) (b : List ℕ) (v k x : ℕ) → SaveIs u b x → found b (Named v) ≡ Some k → k ≢ place_of b
+    → found (store_after u b) (Named v) ≡ Some k
 unfolding rank
 named-stays u b v k x is e other =
     let c = store_after u b in
@@ -128,19 +127,19 @@ named-stays u b v k x is e other =
 
 -- block k holds a save, and is found by its version
 abbrev Found-still : State → ℕ → ℕ → List ℕ → Type 0
-Found-still s v k b = Holds s v b k × (found b (Named v) ≡ At k)
+Found-still s v k b = Holds s v b k × (found b (Named v) ≡ Some k)
 
 kept_by : (s u : State) (b : List ℕ) (v k x : ℕ) → Found-still s v k b → SaveIs u b x → k ≢ place_of b → Found-still s v k (store_after u b)
 unfolding Holds
 kept_by s u b v k x h is other = (λ i l. is.words k i other l ∙ h.0 i l, named-stays u b v k x is h.1 other)
 
-kept-one : (s u : State) (b : List ℕ) (v k : ℕ) → Found-still s v k b → ((x : ℕ) → save_of b ≡ Taken x → k ≢ place_of b)
+kept-one : (s u : State) (b : List ℕ) (v k : ℕ) → Found-still s v k b → ((x : ℕ) → save_of b ≡ Ok x → k ≢ place_of b)
     → Found-still s v k (store_after u b)
 kept-one s u b v k h spared = told (save_of b) refl
   where
-    told : (r : Kept) → save_of b ≡ r → Found-still s v k (store_after u b)
-    told (Taken x) e = kept_by s u b v k x h (saves.taken u b x e) (spared x e)
-    told (Refused n) e = subst (Found-still s v k) (sym (saves.refused u b n e).1) h
+    told : (r : Result ℕ Refusal) → save_of b ≡ r → Found-still s v k (store_after u b)
+    told (Ok x) e = kept_by s u b v k x h (saves.taken u b x e) (spared x e)
+    told (Err r) e = subst (Found-still s v k) (sym (saves.refused u b r e).1) h
 
 kept : (us : List State) (b : List ℕ) (s : State) (v k : ℕ) → Found-still s v k b → Spares k us b → Found-still s v k (store_after_all us b)
 unfolding store_after_all Spares
@@ -156,11 +155,11 @@ kept-to-load s us b v k holds x spared =
 
 -- ---- the load
 
-later : Loads → (s t : State) (b : List ℕ) (v k : ℕ) (w : Which) → Holds s v b k → found b (sought w) ≡ At k → Whole t
+later : Loads → (s t : State) (b : List ℕ) (v k : ℕ) (w : Which) → Holds s v b k → found b (sought w) ≡ Some k → Whole t
     → AllFree t → Restored s t v (load_of t w b)
 later loads s t b v k w holds e whole free =
     rw (load-taken t w b k e (held-layout s v b k holds) free) record {
-      answer = ap Taken (held-version s v b k holds);
+      answer = ap Ok (held-version s v b k holds);
       same = λ n l. loads.brings t b k n whole free l ∙ held-setting s v b k n holds l;
       leaves = loads.leaves t b k whole free;
     }

@@ -1,4 +1,5 @@
 -- What the store holds after a save.
+use Rattle.std.proofs.Common.{Some}
 use Prim.Native.Nat.{ℕ, suc, ◌<◌}
 use native.Mathlib.Omega.{arith}
 use mathlib.Core.Bool.{Bool, true, false}
@@ -8,7 +9,6 @@ use mathlib.Core.Path.{◌≡◌, refl, sym, ◌∙◌}
 use borrow.Author.Tests.{eq-eqb}
 use Rattle.unit.specs.declared.State.{State}
 use Rattle.blocks.specs.declared.Search.TheVariants.{Newest}
-use Rattle.blocks.specs.declared.Found.TheVariants.{At}
 use Rattle.blocks.specs.Blocks.{count, word_in, version, check_word, is_sound}
 use Rattle.blocks.specs.Finding.{fits, found}
 use Rattle.blocks.proofs.SoundLaws.{sum_same}
@@ -93,7 +93,7 @@ distinct s b d = told (may_save b) refl
     told true e = distinct-taken s b (suc (greatest b)) (save-is s b (suc (greatest b)) (next_of b (suc (greatest b)) e refl)) d
     told false e = rw (after-refused s b e) d
 
-newest-block : (b : List ℕ) (k v : ℕ) → Distinct b → Next b v → found b Newest ≡ At k → k ≢ place_of b
+newest-block : (b : List ℕ) (k v : ℕ) → Distinct b → Next b v → found b Newest ≡ Some k → k ≢ place_of b
 unfolding Distinct fits
 newest-block b k v d n e same =
     let best = finds.at b Newest k e in

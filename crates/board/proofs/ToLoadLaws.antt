@@ -1,4 +1,5 @@
 -- The block that a load takes, from its definition and back.
+use Rattle.std.proofs.Common.{Option, Some, None}
 use Prim.Native.Nat.{ℕ, ◌*◌, ◌/◌, ◌%◌, ◌+◌, ◌≤◌, ◌<◌}
 use native.Mathlib.Omega.{arith}
 use mathlib.Core.Bool.{true, ◌&&◌}
@@ -8,8 +9,6 @@ use lib.Dec.{leb, eqb}
 use lib.ListN.{length}
 use borrow.Author.Tests.{le-leb, leb-true, eq-eqb, eqb-true}
 use Rattle.words.proofs.ChoiceLaws.{holds, and_left, and_right}
-use Rattle.blocks.specs.declared.Found.{Found}
-use Rattle.blocks.specs.declared.Found.TheVariants.{At, Missing}
 use Rattle.blocks.specs.Blocks.{is_store, count, version, is_sound}
 use Rattle.blocks.specs.Finding.{fits, rank, found}
 use Rattle.blocks.proofs.WordLaws.{no_store, count-good}
@@ -81,7 +80,7 @@ unfolding rank sought
 below-rank b Latest j k l = l
 below-rank b (Version v) j k l = absurd (omega arith)
 
-pub to-load-found : (b : List ℕ) (w : Which) (k : ℕ) → ToLoad b w k → found b (sought w) ≡ At k
+pub to-load-found : (b : List ℕ) (w : Which) (k : ℕ) → ToLoad b w k → found b (sought w) ≡ Some k
 to-load-found b w k x =
     let n = has-count b x.blocks x.store in
     finds.only b (sought w) k
@@ -94,7 +93,7 @@ to-load-found b w k x =
           rank_below b w j k y x.sought (x.first j l y);
     }
 
-pub found-to-load : (b : List ℕ) (w : Which) (k : ℕ) → found b (sought w) ≡ At k → ToLoad b w k
+pub found-to-load : (b : List ℕ) (w : Which) (k : ℕ) → found b (sought w) ≡ Some k → ToLoad b w k
 found-to-load b w k e =
     let best = finds.at b (sought w) k e in
     let own = fits-sought b w k best.sought in
@@ -109,17 +108,17 @@ found-to-load b w k e =
 
 -- ---- nothing is found
 
-none_found : (b : List ℕ) (w : Which) → ((k : ℕ) → found b (sought w) ≡ At k → ⊥) → found b (sought w) ≡ Missing
+none_found : (b : List ℕ) (w : Which) → ((k : ℕ) → found b (sought w) ≡ Some k → ⊥) → found b (sought w) ≡ None
 none_found b w no_block = told (found b (sought w)) refl
   where
-    told : (f : Found) → found b (sought w) ≡ f → found b (sought w) ≡ Missing
-    told Missing e = e
-    told (At k) e = absurd (no_block k e)
+    told : (f : Option ℕ) → found b (sought w) ≡ f → found b (sought w) ≡ None
+    told None e = e
+    told (Some k) e = absurd (no_block k e)
 
-pub none-in-other : (b : List ℕ) (w : Which) → ((n : ℕ) → HasBlocks b n → ⊥) → found b (sought w) ≡ Missing
+pub none-in-other : (b : List ℕ) (w : Which) → ((n : ℕ) → HasBlocks b n → ⊥) → found b (sought w) ≡ None
 none-in-other b w other = none_found b w (λ k e. other (found-to-load b w k e).blocks (found-to-load b w k e).store)
 
-pub none-sought : (b : List ℕ) (w : Which) → ((j : ℕ) → 512 * j + 512 ≤ length b → Sought b w j → ⊥) → found b (sought w) ≡ Missing
+pub none-sought : (b : List ℕ) (w : Which) → ((j : ℕ) → 512 * j + 512 ≤ length b → Sought b w j → ⊥) → found b (sought w) ≡ None
 none-sought b w no_block =
     none_found b w
     (λ k e.

@@ -1,4 +1,5 @@
 -- One write of a setting while every channel is free: it is taken.
+use Rattle.std.proofs.Common.{Ok}
 use Prim.Native.Nat.{ℕ, zero, suc, ◌+◌, ◌-◌, ◌*◌, ◌%◌, ◌≤◌, ◌<◌}
 use native.Mathlib.Omega.{arith}
 use mathlib.Core.Bool.{Bool, true, false, ◌&&◌}
@@ -14,9 +15,7 @@ use Rattle.unit.specs.declared.Place.{Place}
 use Rattle.unit.specs.declared.Place.TheVariants.{AtRegister, AtWord, AtLate, Nowhere}
 use Rattle.unit.specs.declared.Deed.{Deed}
 use Rattle.unit.specs.declared.Deed.TheVariants.{Nothing, Parameter, Register}
-use Rattle.unit.specs.declared.Verdict.{Verdict}
-use Rattle.unit.specs.declared.Verdict.TheVariants.{Taken as Does}
-use Rattle.unit.specs.declared.Answer.TheVariants.{Taken}
+use Rattle.unit.specs.Refusals.{Verdict}
 use Rattle.unit.specs.TheUnit.{all, any, cisr, hsrr_of, function, request, exists, stepping, reaches, is_bound}
 use Rattle.unit.specs.Gate.{place, is_free, keeps_or_free, ask_register, ask_word, ask_place, done}
 use Rattle.unit.specs.Calls.{answered_by, write_of}
@@ -78,29 +77,29 @@ not-status i e q = register-cases ⊥ i e (λ h l. omega arith) (λ h l. omega a
 pub not-requests : (i : ℕ) → is_setting_register i ≡ true → 7 ≤ i → i ≤ 8 → ⊥
 not-requests i e a b = register-cases ⊥ i e (λ h l. omega arith) (λ h l. omega arith)
 
-register-taken : (s : State) (i v : ℕ) → Still s → is_setting_register i ≡ true → ask_register s i v ≡ Does (Register i v)
+register-taken : (s : State) (i v : ℕ) → Still s → is_setting_register i ≡ true → ask_register s i v ≡ Ok (Register i v)
 unfolding ask_register ask
 register-taken s i v f e =
-    let P : Verdict → Type 0 = λ k. k ≡ Does (Register i v) in
+    let P : Verdict → Type 0 = λ k. k ≡ Ok (Register i v) in
     pick-cases P (eqb i cisr) (λ t. absurd (not-status i e (eqb-true i cisr t)))
     (λ t. pick-cases P (leb 1 i && leb i 4) (λ u. rw (functions-free s i v f (leb-true 1 i (and_left (leb 1 i) (leb i 4) u))))
     (λ u. pick-cases P (leb 7 i && leb i 8)
     (λ w. absurd (not-requests i e (leb-true 7 i (and_left (leb 7 i) (leb i 8) w)) (leb-true i 8 (and_right (leb 7 i) (leb i 8) w)))) (λ w. refl)))
 
-word-taken : (s : State) (c i v : ℕ) → Still s → c < 16 → exists c i ≡ true → ask_word s c i v ≡ Does (Parameter (8 * c + i) v)
+word-taken : (s : State) (c i v : ℕ) → Still s → c < 16 → exists c i ≡ true → ask_word s c i v ≡ Ok (Parameter (8 * c + i) v)
 unfolding ask_word ask Still
 word-taken s c i v f h e =
     rw (e, each_free s c f h)
-    (pick-cases (λ k. k ≡ Does (Parameter (8 * c + i) v)) (eqb i 3 && stepping s c)
+    (pick-cases (λ k. k ≡ Ok (Parameter (8 * c + i) v)) (eqb i 3 && stepping s c)
     (λ t. absurd (not-both (and_right (eqb i 3) (stepping s c) t) (f c h).0)) (λ t. refl))
 
-place-taken : (s : State) (p : Place) (v : ℕ) → Still s → Settled p → ask_place s p v ≡ Does (deed_at p v)
+place-taken : (s : State) (p : Place) (v : ℕ) → Still s → Settled p → ask_place s p v ≡ Ok (deed_at p v)
 unfolding ask_place deed_at Settled
 place-taken s (AtRegister i) v f x = register-taken s i v f x
 place-taken s (AtWord c i) v f x = word-taken s c i v f x.0 x.2
 place-taken s (AtLate k) v f x = absurd x
 place-taken s Nowhere v f x = absurd x
 
-pub write-taken : (s : State) (a v : ℕ) → Still s → Settled (place a) → write_of s a v ≡ record { answer = Taken; state = put (place a) v s }
+pub write-taken : (s : State) (a v : ℕ) → Still s → Settled (place a) → write_of s a v ≡ record { answer = Ok tt; state = put (place a) v s }
 unfolding write_of answered_by put
 write-taken s a v f x = rw (gate-place s a v, place-taken s (place a) v f x)

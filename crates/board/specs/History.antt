@@ -1,5 +1,5 @@
--- Every history of a board: its list of calls has saves and loads beside the unit's reads, writes and advances. Paper 02, #102.
-use Rattle.std.specs.Prelude.{ℕ, List, [], ◌∷◌, ◌++◌, ◌≡◌}
+-- Every history of a board: its list of calls has saves and loads beside the unit's reads, writes and advances.
+use Rattle.std.specs.Prelude.{Result, Ok, Err, ℕ, List, [], ◌∷◌, ◌++◌, ◌≡◌}
 use Rattle.words.specs.Choice.{pick}
 use Rattle.unit.specs.declared.State.{State}
 use Rattle.unit.specs.TheUnit.{reset_state}
@@ -13,9 +13,8 @@ use Rattle.history.specs.Served.{ServedWithinOf}
 use Rattle.history.specs.Late.{HowLateOf}
 use Rattle.isolation.specs.OneMove.{OneMoveOf}
 use Rattle.blocks.specs.Claims.{Bytes}
+use Rattle.keeping.specs.declared.Refusal.{Refusal}
 use Rattle.keeping.specs.declared.Which.{Which}
-use Rattle.keeping.specs.declared.Chosen.{Chosen}
-use Rattle.keeping.specs.declared.Chosen.TheVariants.{No, Block}
 use Rattle.keeping.specs.Layout.{load_calls}
 use Rattle.keeping.specs.Keeping.{chosen, all_free, load_of}
 
@@ -36,9 +35,9 @@ board_run s [] = s
 board_run s (x ∷ xs) = board_run (after x s) xs
 
 -- the unit's calls that a load comes to: its writes, or none where it is refused
-unfoldable pub played : State → List ℕ → Chosen → List Call
-played s b (No n) = []
-played s b (Block k) = pick (all_free s) (load_calls b k) []
+unfoldable pub played : State → List ℕ → Result ℕ Refusal → List Call
+played s b (Err r) = []
+played s b (Ok k) = pick (all_free s) (load_calls b k) []
 
 unfoldable pub unit_calls : BoardCall → State → List Call
 unit_calls (OfUnit x) s = x ∷ []
@@ -66,8 +65,8 @@ pub record BoardHistory : Type 0 where
   -- after a list of the board's calls the state is that after the unit's calls to which it comes, and so with each part of it
   pub returns : (s : State) (xs : List BoardCall) → board_run s xs ≡ run s (all_calls s xs)
   pub parts : (s : State) (xs ys : List BoardCall) → all_calls s (xs ++ ys) ≡ all_calls s xs ++ all_calls (board_run s xs) ys
-  -- term 3, what always holds, the speeds of #103, the 112 ticks of #107, #105 as it restates it, and how late the services were (#108), of
-  -- every list of the board's calls
+  -- term 3, what always holds, the speeds of slow moves, the 112 ticks within which a service comes, that no other channel changes a move, and
+  -- how late the services were, of every list of the board's calls
   pub term-3 : Term3Of FromBoard
   pub always : AlwaysOf FromBoard
   pub slow-moves : SlowMovesOf FromBoard

@@ -1,5 +1,5 @@
--- What a load does to the unit. Paper 02, #102.
-use Rattle.std.specs.Prelude.{ℕ, ◌+◌, ◌*◌, ◌≤◌, ◌<◌, Bool, true, false, ◌&&◌, ◌||◌, List, ◌≢◌, ◌⊎◌, ◌≡◌, leb, length}
+-- What a load does to the unit.
+use Rattle.std.specs.Prelude.{Ok, Err, ℕ, ◌+◌, ◌*◌, ◌≤◌, ◌<◌, Bool, true, false, ◌&&◌, ◌||◌, List, ◌≢◌, ◌⊎◌, ◌≡◌, leb, length}
 use Rattle.unit.specs.declared.State.{State}
 use Rattle.unit.specs.declared.Place.{Place}
 use Rattle.unit.specs.declared.Place.TheVariants.{AtRegister, AtWord, AtLate}
@@ -8,11 +8,12 @@ use Rattle.unit.specs.Gate.{place}
 use Rattle.unit.specs.Calls.{is_taken, write_of, run}
 use Rattle.unit.specs.Takes.{pending, Free}
 use Rattle.blocks.specs.Blocks.{word_in, version, is_sound}
-use Rattle.keeping.specs.declared.Kept.TheVariants.{Taken, Refused}
+use Rattle.keeping.specs.declared.Refusal.{Refusal}
+use Rattle.keeping.specs.declared.Refusal.TheVariants.{NotFree, NoVersion, UnknownLayout}
 use Rattle.keeping.specs.declared.Which.{Which}
 use Rattle.keeping.specs.declared.Which.TheVariants.{Latest, Version}
 use Rattle.keeping.specs.Layout.{settings, setting_address, setting, setting_writes, load_calls}
-use Rattle.keeping.specs.Keeping.{load_of}
+use Rattle.keeping.specs.Keeping.{refusal_number, load_of}
 
 -- the registers among the settings: CFSR0 to CFSR3 and CPR0, CPR1
 unfoldable pub is_setting_register : ℕ → Bool
@@ -29,7 +30,7 @@ pub record Addresses : Type 0 where
   pub words : (c i : ℕ) → c < 16 → i < 8 → exists c i ≡ true → SettingAt (AtWord c i)
   pub registers : (i : ℕ) → is_setting_register i ≡ true → SettingAt (AtRegister i)
   pub by_address : (m n : ℕ) → m < n → n < 100 → setting_address m < setting_address n
-  -- none of them is a number of paper 02, #108
+  -- none of them is the number of a service that was late
   pub none-late : (n c : ℕ) → n < settings → place (setting_address n) ≢ AtLate c
 
 -- ---- the block that is loaded
@@ -83,16 +84,17 @@ pub record Loads : Type 0 where
   pub brings : (s : State) (b : List ℕ) (k n : ℕ) → Whole s → AllFree s → n < settings → setting (run s (load_calls b k)) n ≡ word_in b k (3 + n)
   pub leaves : (s : State) (b : List ℕ) (k : ℕ) → Whole s → AllFree s → Leaves s (run s (load_calls b k))
   -- whatever the channels do, 12 stands for bytes of another length and for a store without a sound block, or without one of the named version
-  pub store_length : (s : State) (w : Which) (b : List ℕ) → ((n : ℕ) → HasBlocks b n → ⊥) → (load_of s w b).answer ≡ Refused 12
-  pub none-sound : (s : State) (w : Which) (b : List ℕ) → ((j : ℕ) → 512 * j + 512 ≤ length b → Sought b w j → ⊥) → (load_of s w b).answer ≡ Refused 12
+  pub store_length : (s : State) (w : Which) (b : List ℕ) → ((n : ℕ) → HasBlocks b n → ⊥) → (load_of s w b).answer ≡ Err NoVersion
+  pub none-sound : (s : State) (w : Which) (b : List ℕ) → ((j : ℕ) → 512 * j + 512 ≤ length b → Sought b w j → ⊥) → (load_of s w b).answer ≡ Err NoVersion
   -- and 13 for a block to load of another layout than 1
-  pub layout : (s : State) (w : Which) (b : List ℕ) (k : ℕ) → ToLoad b w k → word_in b k 0 ≢ 1 → (load_of s w b).answer ≡ Refused 13
+  pub layout : (s : State) (w : Which) (b : List ℕ) (k : ℕ) → ToLoad b w k → word_in b k 0 ≢ 1 → (load_of s w b).answer ≡ Err UnknownLayout
   -- else 2 where some channel is bound or has another field than 00 in HSRR
   pub question-2 : (s : State) (w : Which) (b : List ℕ) (k c : ℕ) → ToLoad b w k → word_in b k 0 ≡ 1 → c < 16
-      → (is_bound s c ≡ true) ⊎ (pending c s ≢ 0) → (load_of s w b).answer ≡ Refused 2
+      → (is_bound s c ≡ true) ⊎ (pending c s ≢ 0) → (load_of s w b).answer ≡ Err NotFree
   -- and where none is, the writes of the block are played in
   pub taken : (s : State) (w : Which) (b : List ℕ) (k : ℕ) → ToLoad b w k → word_in b k 0 ≡ 1 → AllFree s
-      → load_of s w b ≡ record { answer = Taken (version b k); state = run s (load_calls b k) }
+      → load_of s w b ≡ record { answer = Ok (version b k); state = run s (load_calls b k) }
   -- there is no other number, and a refused load changes nothing
-  pub numbers : (s : State) (w : Which) (b : List ℕ) (n : ℕ) → (load_of s w b).answer ≡ Refused n → (n ≡ 12) ⊎ ((n ≡ 13) ⊎ (n ≡ 2))
-  pub refused : (s : State) (w : Which) (b : List ℕ) (n : ℕ) → (load_of s w b).answer ≡ Refused n → (load_of s w b).state ≡ s
+  pub numbers : (s : State) (w : Which) (b : List ℕ) (r : Refusal) → (load_of s w b).answer ≡ Err r
+      → (refusal_number r ≡ 12) ⊎ ((refusal_number r ≡ 13) ⊎ (refusal_number r ≡ 2))
+  pub refused : (s : State) (w : Which) (b : List ℕ) (r : Refusal) → (load_of s w b).answer ≡ Err r → (load_of s w b).state ≡ s

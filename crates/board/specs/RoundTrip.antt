@@ -1,7 +1,6 @@
--- What was saved is what a load plays in. Paper 02, #102.
-use Rattle.std.specs.Prelude.{ℕ, ◌<◌, List, [], ◌∷◌, ◌≢◌, ◌⊎◌, ◌≡◌}
+-- What was saved is what a load plays in.
+use Rattle.std.specs.Prelude.{Ok, ℕ, ◌<◌, List, [], ◌∷◌, ◌≢◌, ◌⊎◌, ◌≡◌}
 use Rattle.unit.specs.declared.State.{State}
-use Rattle.keeping.specs.declared.Kept.TheVariants.{Taken}
 use Rattle.keeping.specs.declared.Which.{Which}
 use Rattle.keeping.specs.declared.Which.TheVariants.{Latest, Version}
 use Rattle.keeping.specs.declared.Loaded.{Loaded}
@@ -13,7 +12,7 @@ use Rattle.unit.specs.TheUnit.{Whole}
 
 -- a load from t that brought back what was saved of s as version v
 pub record Restored (s t : State) (v : ℕ) (r : Loaded) : Type 0 where
-  pub answer : r.answer ≡ Taken v
+  pub answer : r.answer ≡ Ok v
   pub same : (n : ℕ) → n < settings → setting r.state n ≡ setting s n
   pub leaves : Leaves t r.state
 
@@ -25,11 +24,11 @@ store_after_all (u ∷ us) b = store_after_all us (store_after u b)
 -- each of these saves is refused or goes to another block than k
 unfoldable pub Spares : ℕ → List State → List ℕ → Type 0
 Spares k [] b = Unit {0}
-Spares k (u ∷ us) b = ((x : ℕ) → save_of b ≡ Taken x → k ≢ place_of b) × Spares k us (store_after u b)
+Spares k (u ∷ us) b = ((x : ℕ) → save_of b ≡ Ok x → k ≢ place_of b) × Spares k us (store_after u b)
 
 pub record RoundTrip : Type 0 where
   -- right after a save: the newest version, and that version by its number
-  pub at-once : (s t : State) (b : List ℕ) (v : ℕ) (w : Which) → save_of b ≡ Taken v → (w ≡ Latest) ⊎ (w ≡ Version v) → Whole t → AllFree t
+  pub at-once : (s t : State) (b : List ℕ) (v : ℕ) (w : Which) → save_of b ≡ Ok v → (w ≡ Latest) ⊎ (w ≡ Version v) → Whole t → AllFree t
       → Restored s t v (load_of t w (store_after s b))
   -- at any time while a block holds it and is the one to load
   pub later : (s t : State) (b : List ℕ) (v k : ℕ) (w : Which) → Holds s v b k → ToLoad b w k → Whole t → AllFree t

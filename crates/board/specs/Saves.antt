@@ -1,13 +1,12 @@
--- What a save does to the store. Paper 02, #102.
-use Rattle.std.specs.Prelude.{ℕ, ◌<◌, true, List, ◌≢◌, ◌≡◌, length}
+-- What a save does to the store.
+use Rattle.std.specs.Prelude.{Some, Ok, Err, ℕ, ◌<◌, true, List, ◌≢◌, ◌≡◌, length}
 use Rattle.unit.specs.declared.State.{State}
 use Rattle.blocks.specs.declared.Search.TheVariants.{Newest}
-use Rattle.blocks.specs.declared.Found.TheVariants.{At}
 use Rattle.blocks.specs.Blocks.{count, word_in, version, is_sound}
 use Rattle.blocks.specs.Finding.{found}
-use Rattle.keeping.specs.declared.Kept.TheVariants.{Taken, Refused}
+use Rattle.keeping.specs.declared.Refusal.{Refusal}
 use Rattle.keeping.specs.Layout.{block_word}
-use Rattle.keeping.specs.Keeping.{place_of, save_of, store_after}
+use Rattle.keeping.specs.Keeping.{refusal_number, place_of, save_of, store_after}
 
 -- block k holds the settings of s as version v
 unfoldable pub Holds : State → ℕ → List ℕ → ℕ → Type 0
@@ -35,17 +34,17 @@ pub record SaveIs (s : State) (b : List ℕ) (v : ℕ) : Type 0 where
   -- the version is greater than that of any sound block
   pub greatest : (j : ℕ) → j < count b → is_sound b j ≡ true → version b j < v
   -- and the newest version before it is still held by a block that was not written
-  pub newest : (k : ℕ) → found b Newest ≡ At k → Elsewhere b (version b k)
+  pub newest : (k : ℕ) → found b Newest ≡ Some k → Elsewhere b (version b k)
 
 -- no two sound blocks have the same version
 unfoldable pub Distinct : List ℕ → Type 0
 Distinct b = (j k : ℕ) → j < count b → k < count b → is_sound b j ≡ true → is_sound b k ≡ true → version b j ≡ version b k → j ≡ k
 
 pub record Saves : Type 0 where
-  pub taken : (s : State) (b : List ℕ) (v : ℕ) → save_of b ≡ Taken v → SaveIs s b v
+  pub taken : (s : State) (b : List ℕ) (v : ℕ) → save_of b ≡ Ok v → SaveIs s b v
   -- a refused save has the number 12 and changes no byte
-  pub refused : (s : State) (b : List ℕ) (n : ℕ) → save_of b ≡ Refused n → (n ≡ 12) × (store_after s b ≡ b)
+  pub refused : (s : State) (b : List ℕ) (r : Refusal) → save_of b ≡ Err r → (refusal_number r ≡ 12) × (store_after s b ≡ b)
   pub long : (s : State) (b : List ℕ) → length (store_after s b) ≡ length b
   -- where versions are distinct they stay so: then the newest block itself is never written over
   pub distinct : (s : State) (b : List ℕ) → Distinct b → Distinct (store_after s b)
-  pub newest-block : (s : State) (b : List ℕ) (k v : ℕ) → Distinct b → save_of b ≡ Taken v → found b Newest ≡ At k → k ≢ place_of b
+  pub newest-block : (s : State) (b : List ℕ) (k v : ℕ) → Distinct b → save_of b ≡ Ok v → found b Newest ≡ Some k → k ≢ place_of b

@@ -1,4 +1,4 @@
-// A board with a store: what is proved of its saves, its loads and every list of its calls. Paper 02, #102.
+// A board with a store: what is proved of its saves, its loads and every list of its calls.
 #![tactic(auto)]
 
 ghost use Rattle.board.specs.Saves.{Saves};
@@ -9,5 +9,9 @@ ghost use Rattle.board.specs.History.{BoardHistory};
 // A save leaves every other block and never the newest version without one; a load brings back what was saved and nothing else;
 // and term 3 holds with both in the list of calls.
 pub fn histories()
-    ensures { Addresses × Saves × Loads × RoundTrip × BoardHistory }
+    ensures addresses { Addresses }
+    ensures saves { Saves }
+    ensures loads { Loads }
+    ensures round_trip { RoundTrip }
+    ensures history { BoardHistory }
 {}

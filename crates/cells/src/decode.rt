@@ -28,14 +28,10 @@ pub fn phase_number(flags: u16) -> u16
 pub fn phase_from(number: u16, time: u16, set: u16) -> Phase
     ensures { result ≡ phase_from number time set }
 {
-    if number == 1 {
-        return Phase::Requested;
+    match number {
+        1 => Phase::Requested,
+        2 => Phase::Armed(time),
+        3 => Phase::Matched(time, set),
+        _ => Phase::Resting,
     }
-    if number == 2 {
-        return Phase::Armed(time);
-    }
-    if number == 3 {
-        return Phase::Matched(time, set);
-    }
-    Phase::Resting
 }

@@ -2,16 +2,16 @@
 #![tactic(auto)]
 
 ghost use Rattle.std.specs.Prelude.{◌≡◌};
-ghost use Rattle.words.specs.declared.Timer.TheVariants.{Tcr1};
-ghost use Rattle.words.specs.Clock.{since, past, later, time_by, same_timer, onward, ticks_until};
+ghost use Rattle.words.specs.Clock.{since, past, later, time_by, onward, ticks_until};
 
 use words::{Past, Timer, Timers};
 
 // How far a timer that shows `now` is past `time`.
+#[tactic(auto, unfolding(words::specs::Clock::since))]
 pub fn since(now: u16, time: u16) -> u16
     ensures { result ≡ since now time }
 {
-    std::num::wrapping_sub_u16(now, time)
+    now.wrapping_sub(time)
 }
 
 // The test for a match set for `time`, at `now`.
@@ -20,70 +20,52 @@ pub fn past(now: u16, time: u16) -> Past
 {
     let counts = since(now, time);
     Past {
-        counts: counts,
+        counts,
         due: counts < 0x8000,
     }
 }
 
 // The time `count` after `time`: a match time, or what a timer shows so many counts on.
+#[tactic(auto, unfolding(words::specs::Clock::later))]
 pub fn later(time: u16, count: u16) -> u16
     ensures { result ≡ later time count }
 {
-    std::num::wrapping_add_u16(time, count)
+    time.wrapping_add(count)
 }
 
 // The time by a timer.
-pub fn time_by(timer: Timer, t: Timers) -> u16
-    ensures { result ≡ time_by timer t }
+#[tactic(auto, unfolding(words::specs::Clock::time_by))]
+pub fn time_by(timer: Timer, timers: Timers) -> u16
+    ensures { result ≡ time_by timer timers }
 {
     match timer {
-        Timer::Tcr1 => t.tcr1,
-        Timer::Tcr2 => t.tcr2,
-    }
-}
-
-pub fn same(a: Timer, b: Timer) -> bool
-    ensures { result ≡ same_timer a b }
-{
-    match a {
-        Timer::Tcr1 => is_first(b),
-        Timer::Tcr2 => !is_first(b),
-    }
-}
-
-fn is_first(timer: Timer) -> bool
-    ensures { result ≡ same_timer Tcr1 timer }
-{
-    match timer {
-        Timer::Tcr1 => true,
-        Timer::Tcr2 => false,
+        Timer::Tcr1 => timers.tcr1,
+        Timer::Tcr2 => timers.tcr2,
     }
 }
 
 // Both timers n ticks on.
-pub fn onward(n: u16, t: Timers) -> Timers
-    ensures { result ≡ onward n t }
+#[tactic(auto, unfolding(words::specs::Clock::onward))]
+pub fn onward(n: u16, timers: Timers) -> Timers
+    ensures { result ≡ onward n timers }
 {
-    let eighths = ((t.tcr1 % 8) as u32 + n as u32) / 8;
+    let eighths = (u32::from(timers.tcr1 % 8) + u32::from(n)) / 8;
     Timers {
-        tcr1: later(t.tcr1, n),
-        tcr2: later(t.tcr2, eighths as u16),
+        tcr1: later(timers.tcr1, n),
+        tcr2: later(timers.tcr2, eighths as u16),
     }
 }
 
 // In how many ticks the timer has gone on by `count`.
-pub fn ticks_until(timer: Timer, t: Timers, count: u16) -> u32
-    ensures { result ≡ ticks_until timer t count }
+#[tactic(auto, unfolding(words::specs::Clock::ticks_until, words::specs::Clock::ticks_a_count))]
+pub fn ticks_until(timer: Timer, timers: Timers, count: u16) -> u32
+    ensures { result ≡ ticks_until timer timers count }
 {
     match timer {
-        Timer::Tcr1 => count as u32,
+        Timer::Tcr1 => u32::from(count),
         Timer::Tcr2 => {
-            let over = (t.tcr1 % 8) as u32;
-            let all = 8 * (count as u32);
-            if all < over {
-                return 0;
-            }
-            all - over
+            let over = u32::from(timers.tcr1 % 8);
+            (8 * u32::from(count)).saturating_sub(over)
         }
     }
 }

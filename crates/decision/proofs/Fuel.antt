@@ -7,16 +7,16 @@ use Rattle.motor.specs.declared.Way.{Way}
 use Rattle.motor.specs.declared.Way.TheVariants.{Right, Left}
 use Rattle.motor.specs.declared.Motor.{Motor}
 use Rattle.motor.specs.declared.Outcome.TheVariants.{Step}
-use Rattle.motor.specs.declared.Choice.TheVariants.{Onward, Back}
+use Rattle.std.specs.Prelude.{Some, None}
 use Rattle.motor.specs.Stepping.{choice, ahead, test as test_of, turn}
 
 -- a turn that has fuel goes by its choice
-pub onward : (w : Way) (fuel k : ℕ) (m : Motor) → 0 < fuel → choice (ahead w m) m.top m.rate ≡ Onward k → turn fuel w m ≡ Step w k
+pub onward : (w : Way) (fuel k : ℕ) (m : Motor) → 0 < fuel → choice (ahead w m) m.top m.rate ≡ Some k → turn fuel w m ≡ Step w k
 unfolding turn
 onward w zero k m f h = absurd (omega arith)
 onward w (suc n) k m f h = rw h
 
-pub back : (w : Way) (fuel : ℕ) (m : Motor) → 0 < fuel → choice (ahead w m) m.top m.rate ≡ Back → turn fuel w m ≡ test_of (fuel - 1) m
+pub back : (w : Way) (fuel : ℕ) (m : Motor) → 0 < fuel → choice (ahead w m) m.top m.rate ≡ None → turn fuel w m ≡ test_of (fuel - 1) m
 unfolding turn
 back w zero m f h = absurd (omega arith)
 back w (suc n) m f h = let e : n ≡ suc n - 1 = omega arith in rw h (ap (λ k. test_of k m) e)

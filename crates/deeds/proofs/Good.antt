@@ -10,16 +10,16 @@ use Rattle.unit.specs.declared.State.{State}
 use Rattle.unit.specs.declared.Deed.TheVariants.{Request}
 use Rattle.unit.specs.declared.Place.{Place}
 use Rattle.unit.specs.declared.Place.TheVariants.{AtRegister, AtWord, AtLate, Nowhere}
-use Rattle.unit.specs.declared.Verdict.{Verdict}
-use Rattle.unit.specs.declared.Verdict.TheVariants.{Taken, Refused}
 use Rattle.unit.specs.TheUnit.{all, cisr, exists, stepping}
 use Rattle.unit.specs.Gate.{Asked, Yes, No, place, is_free, target_good, keeps_or_free, ask_channels, verdict_of, ask_register, ask_word, ask_place, gate}
 use Rattle.unit.proofs.Places.{PlaceGood, place-good, gate-place}
 use Rattle.deeds.specs.Good.{DeedGood}
+use Rattle.std.specs.Prelude.{Err, Ok}
+use Rattle.unit.specs.Refusals.{Verdict}
 
 unfoldable pub VerdictGood : Verdict → Type 0
-VerdictGood (Taken d) = DeedGood d
-VerdictGood (Refused n) = Unit {0}
+VerdictGood (Ok d) = DeedGood d
+VerdictGood (Err n) = Unit {0}
 
 requests-good : (x : Asked) (a v : ℕ) → (a ≤ 8) × (a % 8 ≡ 0) → VerdictGood (verdict_of x (Request a v))
 unfolding VerdictGood DeedGood verdict_of

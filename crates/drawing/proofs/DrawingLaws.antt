@@ -1,58 +1,53 @@
--- The changes of an advance, and what each command's answer makes of the states, the ticks and the bytes.
-use Rattle.std.proofs.Common.{◌≡◌, ℕ, zero, suc, ◌+◌, ◌%◌, ◌^◌, ◌<◌, ◌≤◌, min, true, false, List, length, sym, refl, ap, ◌∙◌, subst, add-one, arith, le-leb}
+-- The changes of an advance, and what each command's answer makes of the recorder and the page.
+use Rattle.std.proofs.Common.{◌≡◌, ℕ, suc, ◌+◌, ◌%◌, ◌^◌, ◌<◌, ◌≤◌, true, false, Some, refl, ap, ◌∙◌, add-one, arith, le-leb, Err, Ok}
 use lib.ListN.{length-replicate}
 use borrow.Author.Tests.{lt-leb}
 use Rattle.unit.specs.declared.State.{State}
-use Rattle.unit.specs.declared.Reading.{Reading}
-use Rattle.unit.specs.declared.Reading.TheVariants.{Word, Refused as NoWord}
-use Rattle.unit.specs.declared.Answer.TheVariants.{Taken, Refused}
 use Rattle.unit.specs.declared.Answered.{Answered}
 use Rattle.unit.specs.Gate.{advance_good}
 use Rattle.unit.specs.Calls.{read_of, write_of, advance_of}
-use Rattle.unit.specs.Answers.{reading_number, answer_number}
 use Rattle.unit.specs.OneTick.{tick, after_ticks}
-use Rattle.tpu.specs.Refusals.{Numbered, NumberedRead}
-use Rattle.tpu.proofs.Refused.{refusals}
-use Rattle.text.specs.Placing.{Wrote, written}
-use Rattle.text.proofs.PlacingLaws.{also, nothing, from_front}
-use Rattle.parse.specs.declared.Command.{Command}
+use Rattle.text.specs.declared.Page.{Page}
+use Rattle.text.specs.Placing.{Wrote}
+use Rattle.text.proofs.PlacingLaws.{also, nothing}
 use Rattle.parse.specs.declared.Command.TheVariants.{Write, Read, Ticks}
-use Rattle.parse.specs.Parsing.{command_of}
 use Rattle.parse.proofs.LineLaws.{cut-same as same-command}
-use Rattle.script.specs.Replying.{room, state_by, counted, ticks_by, state_after, ticks_after}
-use Rattle.drawing.specs.declared.Drawn.{Drawn}
+use Rattle.script.specs.Replying.{room, state_by, counted, ticks_by}
 use Rattle.wave.specs.Changes.{changes}
-use Rattle.drawing.specs.Drawing.{seen_at, tick_changes, refusal_note, noted, drawing_by, seen_if, seen_by, drawing, seen_after, Drew}
+use Rattle.drawing.specs.declared.Recorder.{Recorder}
+use Rattle.drawing.specs.Drawing.{seen_at, tick_changes, refusal_note, noted, drawing_by, seen_if, seen_by, Drew}
 use Rattle.drawing.specs.Claims.{CutSame}
+use Rattle.unit.specs.Refusals.{Reading}
+use Rattle.unit.specs.declared.Refusal.{Refusal}
+use Rattle.unit.specs.declared.Refusal.TheVariants.{TooManyTicks}
 
 -- ---- ticks
 
--- the changes of one tick more
-pub next-changes :
-    (i ticks now at place : ℕ) (seen s old next : State) (out mid left : List ℕ) →
-    now ≡ (ticks + (i + 1)) % 2 ^ 64 →
-    old ≡ seen_at i seen s →
-    next ≡ after_ticks (i + 1) s →
-    Wrote out 0 (tick_changes i seen s ticks) at mid →
-    Wrote mid at (changes now old next) place left →
-    Wrote out 0 (tick_changes (i + 1) seen s ticks) place left
-unfolding tick_changes
-next-changes i ticks now at place seen s old next out mid left e o n f g =
-    let t : now ≡ (ticks + suc i) % 2 ^ 64 = rw add-one at e in
-    let m : next ≡ after_ticks (suc i) s = rw add-one at n in
-    rw (add-one i, ← t, ← o, ← m) (also f g)
+-- where a recorder stands after i ticks of an advance, and the page
+pub record Ticked (i : ℕ) (before after : Recorder) (page left : Page) : Type 0 where
+  pub moved : after.bench.state ≡ after_ticks i before.bench.state
+  pub counted : after.bench.ticks ≡ (before.bench.ticks + i) % 2 ^ 64
+  pub shown : after.seen ≡ seen_at i before.seen before.bench.state
+  pub wrote : Wrote page (tick_changes i before.seen before.bench.state before.bench.ticks) left
 
--- the state after one tick more
-pub next-state : (i : ℕ) (s now next : State) → now ≡ after_ticks i s → next ≡ tick now → next ≡ after_ticks (i + 1) s
-unfolding after_ticks
-next-state i s now next e f = rw (add-one i, ← e) f
+pub unticked : (recorder : Recorder) (page : Page) → recorder.bench.ticks < 2 ^ 64 → Ticked 0 recorder recorder page page
+unfolding after_ticks seen_at tick_changes
+unticked recorder page h = record { moved = refl; counted = omega arith; shown = refl; wrote = nothing page }
 
--- and that is the one drawn last
-pub next-seen : (i : ℕ) (seen s next : State) → next ≡ after_ticks (i + 1) s → next ≡ seen_at (i + 1) seen s
-unfolding seen_at
-next-seen i seen s next e =
-    let m : next ≡ after_ticks (suc i) s = rw add-one at e in
-    rw (add-one i) m
+pub one_more :
+    {before mid after : Recorder} {page between left : Page} (i : ℕ) →
+    Ticked i before mid page between →
+    after.bench.state ≡ tick mid.bench.state →
+    after.bench.ticks ≡ (before.bench.ticks + (i + 1)) % 2 ^ 64 →
+    after.seen ≡ after.bench.state →
+    Wrote between (changes after.bench.ticks mid.seen after.bench.state) left →
+    Ticked (i + 1) before after page left
+unfolding after_ticks seen_at tick_changes
+one_more {before} {mid} {after} i t moved counted shown wrote =
+    let s : after.bench.state ≡ after_ticks (suc i) before.bench.state = moved ∙ ap tick t.moved in
+    let n : after.bench.ticks ≡ (before.bench.ticks + suc i) % 2 ^ 64 = rw add-one at counted in
+    rw (add-one i)
+    (record { moved = s; counted = n; shown = shown ∙ s; wrote = also t.wrote (rw (n, s, t.shown) at wrote) })
 
 -- ---- question 10 for the words that the script lends
 
@@ -64,97 +59,53 @@ room-short : (n : ℕ) → 4096 < n → advance_good n room ≡ false
 unfolding advance_good
 room-short n h = rw (lt-leb n 4096 h)
 
-advanced : (s : State) (n : ℕ) → n ≤ 4096 → advance_of s n room ≡ record { answer = Taken; state = after_ticks n s }
+advanced : (s : State) (n : ℕ) → n ≤ 4096 → advance_of s n room ≡ record { answer = Ok tt; state = after_ticks n s }
 unfolding advance_of
 advanced s n h = rw (room-enough n h)
 
-stopped : (s : State) (n : ℕ) → 4096 < n → advance_of s n room ≡ record { answer = Refused 10; state = s }
+stopped : (s : State) (n : ℕ) → 4096 < n → advance_of s n room ≡ record { answer = Err TooManyTicks; state = s }
 unfolding advance_of
 stopped s n h = rw (room-short n h)
 
 -- ---- each answer
 
--- a refusal has a number above 0
-refused : (q : ℕ) (bytes : List ℕ) → 1 ≤ q → noted q bytes ≡ refusal_note q
-unfolding noted
-refused zero bytes h = absurd (omega arith)
-refused (suc q) bytes h = refl
-
-module _ (seen s : State) (ticks : ℕ) (out : List ℕ) where
-  module _ (a v : ℕ) (x : Answered) (e : x ≡ write_of s a v) where
-    pub write-taken : x.answer ≡ Taken → Drew (Write a v) seen s ticks out (record { state = x.state; seen = seen; ticks = ticks; length = 0 }) out
-    unfolding state_by ticks_by seen_by drawing_by noted answer_number
-    write-taken t = record { state = ap (λ y. y.state) e; shown = refl; count = refl; wrote = rw (← e, t) (nothing out 0) }
+module _ (recorder : Recorder) (page : Page) where
+  module _ (a v : ℕ) (x : Answered) (e : x ≡ write_of recorder.bench.state a v) where
+    pub write-taken : x.answer ≡ Ok tt → Drew (Some (Write a v)) recorder (record recorder { bench = record recorder.bench { state = x.state } }) page page
+    unfolding state_by ticks_by seen_by drawing_by noted
+    write-taken t = record { state = ap (λ y. y.state) e; count = refl; shown = refl; wrote = rw (← e, t) (nothing page) }
 
     pub write-refused :
-        (q place : ℕ) (left : List ℕ) →
-        x.answer ≡ Refused q →
-        Wrote out 0 (refusal_note q) place left →
-        Drew (Write a v) seen s ticks out (record { state = x.state; seen = seen; ticks = ticks; length = place }) left
-    unfolding state_by ticks_by seen_by drawing_by answer_number
-    write-refused q place left t w =
-        let p = ap (λ (y : Answered). y.answer) (sym e) ∙ t in
-        let h = (subst Numbered p (refusals.write s a v)).0 in
-        record { state = ap (λ y. y.state) e; shown = refl; count = refl; wrote = rw (p, refused q _ h) w }
+        (r : Refusal) (left : Page) →
+        x.answer ≡ Err r →
+        Wrote page (refusal_note r) left →
+        Drew (Some (Write a v)) recorder (record recorder { bench = record recorder.bench { state = x.state } }) page left
+    unfolding state_by ticks_by seen_by drawing_by noted
+    write-refused r left t w = record { state = ap (λ y. y.state) e; count = refl; shown = refl; wrote = rw (← e, t) w }
 
-  module _ (a : ℕ) (x : Reading) (e : x ≡ read_of s a) where
-    pub read_word : (w : ℕ) → x ≡ Word w → Drew (Read a) seen s ticks out (record { state = s; seen = seen; ticks = ticks; length = 0 }) out
-    unfolding state_by ticks_by seen_by drawing_by noted reading_number
-    read_word w t = record { state = refl; shown = refl; count = refl; wrote = rw (← e, t) (nothing out 0) }
+  module _ (a : ℕ) (x : Reading) (e : x ≡ read_of recorder.bench.state a) where
+    pub read_word : (w : ℕ) → x ≡ Ok w → Drew (Some (Read a)) recorder recorder page page
+    unfolding state_by ticks_by seen_by drawing_by noted
+    read_word w t = record { state = refl; count = refl; shown = refl; wrote = rw (← e, t) (nothing page) }
 
-    pub read-refused :
-        (q place : ℕ) (left : List ℕ) →
-        x ≡ NoWord q →
-        Wrote out 0 (refusal_note q) place left →
-        Drew (Read a) seen s ticks out (record { state = s; seen = seen; ticks = ticks; length = place }) left
-    unfolding state_by ticks_by seen_by drawing_by reading_number
-    read-refused q place left t w =
-        let p = sym e ∙ t in
-        let h = (subst NumberedRead p (refusals.read s a)).0 in
-        record { state = refl; shown = refl; count = refl; wrote = rw (p, refused q _ h) w }
+    pub read-refused : (r : Refusal) (left : Page) → x ≡ Err r → Wrote page (refusal_note r) left → Drew (Some (Read a)) recorder recorder page left
+    unfolding state_by ticks_by seen_by drawing_by noted
+    read-refused r left t w = record { state = refl; count = refl; shown = refl; wrote = rw (← e, t) w }
 
-  module _ (n place : ℕ) (left : List ℕ) where
-    pub advance-taken :
-        (i now : ℕ) (next old : State) →
-        i ≡ n →
-        n ≤ 4096 →
-        next ≡ after_ticks i s →
-        old ≡ seen_at i seen s →
-        now ≡ (ticks + n) % 2 ^ 64 →
-        Wrote out 0 (tick_changes i seen s ticks) place left →
-        Drew (Ticks n) seen s ticks out (record { state = next; seen = old; ticks = now; length = place }) left
-    unfolding state_by ticks_by seen_by drawing_by noted counted seen_if answer_number
-    advance-taken i now next old q h e o t w =
-        let g = advanced s n h in
-        record { state = rw (state_by, g, ← q) e; shown = rw (g, ← q) o; count = rw g t; wrote = rw (g, ← q) w }
+  module _ (n : ℕ) (left : Page) where
+    pub advance-taken : (after : Recorder) → n ≤ 4096 → Ticked n recorder after page left → Drew (Some (Ticks n)) recorder after page left
+    unfolding state_by ticks_by seen_by drawing_by noted counted seen_if
+    advance-taken after h t =
+        let g = advanced recorder.bench.state n h in
+        record { state = rw (state_by, g) t.moved; count = rw g t.counted; shown = rw g t.shown; wrote = rw g t.wrote }
 
-    pub advance-refused :
-        4096 < n →
-        Wrote out 0 (refusal_note 10) place left →
-        Drew (Ticks n) seen s ticks out (record { state = s; seen = seen; ticks = ticks; length = place }) left
-    unfolding state_by ticks_by seen_by drawing_by noted counted seen_if answer_number
+    pub advance-refused : 4096 < n → Wrote page (refusal_note TooManyTicks) left → Drew (Some (Ticks n)) recorder recorder page left
+    unfolding state_by ticks_by seen_by drawing_by noted counted seen_if
     advance-refused h w =
-        let g = stopped s n h in
-        record { state = rw (state_by, g); shown = rw g; count = rw g; wrote = rw g w }
-
--- ---- the line
-
-pub by-line :
-    (line out left : List ℕ) (seen s : State) (ticks : ℕ) (c x : Command) (r : Drawn) →
-    x ≡ command_of line →
-    x ≡ c →
-    Drew c seen s ticks out r left →
-    (r.state ≡ state_after s line)
-    × (r.seen ≡ seen_after seen s line)
-    × (r.ticks ≡ ticks_after s ticks line)
-    × (r.length ≡ min (length (drawing seen s ticks line)) (length out))
-    × (left ≡ written out 0 (drawing seen s ticks line))
-unfolding state_after ticks_after seen_after drawing
-by-line line out left seen s ticks c x r e q d =
-    rw (← e, q) (d.state, d.shown, d.count, d.wrote.next ∙ from_front (drawing_by c seen s ticks) (length out), d.wrote.buffer)
+        let g = stopped recorder.bench.state n h in
+        record { state = rw (state_by, g); count = rw g; shown = rw g; wrote = rw g w }
 
 pub cut-same : CutSame
-unfolding seen_after drawing
 cut-same k h seen s ticks line =
     let e = same-command k h line in
     (ap (λ c. seen_by c seen s) e, ap (λ c. drawing_by c seen s ticks) e)

@@ -2,40 +2,61 @@
 #![tactic(auto)]
 
 ghost use Rattle.std.specs.Prelude.{◌≡◌, min, length};
-ghost use Rattle.text.specs.Placing.{written};
-ghost use Rattle.script.specs.Replying.{state_after, ticks_after};
-ghost use Rattle.drawing.specs.Drawing.{drawing, seen_after};
+ghost use Rattle.text.specs.Placing.{Wrote, written};
+ghost use Rattle.script.specs.Replying.{state_after, ticks_after, state_by, ticks_by};
+ghost use Rattle.drawing.specs.Drawing.{drawing, seen_after, drawing_by, seen_by};
 
 use parse::Command;
+use script::Bench;
+use text::Page;
 use unit::State;
 
 mod act;
 
-// The state and the ticks since reset after a line, the state that was drawn last, and how many bytes the drawing took.
-#[derive(Clone, Copy)]
-pub struct Drawn {
-    pub state: State,
-    pub seen: State,
-    pub ticks: u64,
-    pub length: usize,
-}
-
 // Nothing that a line draws is longer: 4,096 ticks of 413 bytes.
 pub const MAX_DRAWN: usize = State::MAX_TICKS as usize * 413;
 
-// What a line, without its end, draws, put at the front of `out`: as much of it as fits.
-pub fn draw(seen: State, state: State, ticks: u64, line: &[u8], out: &mut [u8]) -> Drawn
-    ensures { (result.state ≡ state_after state line.now)
-        × (result.seen ≡ seen_after seen state line.now)
-        × (result.ticks ≡ ticks_after state ticks line.now)
-        × (result.length ≡ min (length (drawing seen state ticks line.now)) (length out.old))
-        × (out.new ≡ written out.old 0 (drawing seen state ticks line.now)) }
-{
-    let c = parse::line(line);
-    match c {
-        Command::Write(address, value) => act::write(seen, state, ticks, address, value, out),
-        Command::Read(address) => act::read(seen, state, ticks, address, out),
-        Command::Ticks(n) => act::advance(seen, state, ticks, n, out),
-        Command::Other => act::other(seen, state, ticks, out),
+// The unit on its bench, and the state that was drawn last.
+#[derive(Clone, Copy)]
+pub struct Recorder {
+    pub bench: Bench,
+    pub seen: State,
+}
+
+impl Recorder {
+    pub const RESET: Recorder = Recorder {
+        bench: Bench::RESET,
+        seen: State::RESET,
+    };
+
+    // What a line, without its end, draws, put at the front of `out`: as much of it as fits. Answers how many bytes that is.
+    #[tactic(auto, using(text::proofs::PlacingLaws::from_front))]
+    pub fn draw(&mut self, line: &[u8], out: &mut [u8]) -> usize
+        ensures state { self.new.bench.state ≡ state_after self.old.bench.state line.now }
+        ensures ticks { self.new.bench.ticks ≡ ticks_after self.old.bench.state self.old.bench.ticks line.now }
+        ensures seen { self.new.seen ≡ seen_after self.old.seen self.old.bench.state line.now }
+        ensures length { result
+            ≡ min (length (drawing self.old.seen self.old.bench.state self.old.bench.ticks line.now)) (length out.old) }
+        ensures text { out.new
+            ≡ written out.old 0 (drawing self.old.seen self.old.bench.state self.old.bench.ticks line.now) }
+    {
+        let mut page = Page::new(out);
+        self.carry_out(parse::line(line), &mut page);
+        page.filled
+    }
+
+    fn carry_out(&mut self, command: Option<Command>, page: &mut Page)
+        ensures state { self.new.bench.state ≡ state_by command self.old.bench.state }
+        ensures ticks { self.new.bench.ticks ≡ ticks_by command self.old.bench.state self.old.bench.ticks }
+        ensures seen { self.new.seen ≡ seen_by command self.old.seen self.old.bench.state }
+        ensures drawn { Wrote page.old
+            (drawing_by command self.old.seen self.old.bench.state self.old.bench.ticks) page.new }
+    {
+        match command {
+            Some(Command::Write { address, value }) => self.write(address, value, page),
+            Some(Command::Read { address }) => self.read(address, page),
+            Some(Command::Ticks { count }) => self.advance(count, page),
+            None => page.text(b"$comment E $end\n"),
+        }
     }
 }

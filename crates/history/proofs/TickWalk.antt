@@ -7,11 +7,12 @@ use mathlib.Core.Path.{◌≡◌, refl, sym, subst}
 use mathlib.Core.Logic.{◌≢◌, ◌⊎◌, inl, inr, ⊎_elim}
 use lib.Dec.{eqb}
 use borrow.Author.Tests.{eqb-true, eqb-false}
+use Rattle.std.specs.Prelude.{Option, Some, None}
 use Rattle.words.specs.Clock.{due}
 use Rattle.words.proofs.ChoiceLaws.{pick-cases}
 use Rattle.slots.specs.declared.Slots.{Slots}
 use Rattle.slots.specs.declared.Service.{Service}
-use Rattle.slots.specs.declared.Service.TheVariants.{Of, Nobody}
+use Rattle.slots.specs.Slots.{to_channel}
 use Rattle.slots.specs.Claims.{goes_to, leaves}
 use Rattle.slots.proofs.Within.{one-service}
 use Rattle.motor.specs.declared.Phase.{Phase}
@@ -91,18 +92,18 @@ module _ (P : State → Type 0) (c : ℕ) (s : State) (k : Serves P c s) where
       by (Matched captured time) e = k.moves _ captured _ (inr (awake c s (Matched captured time) e refl)) (k.tells _ _ walk-request_served)
 
 -- whom a slot goes to is one of sixteen
-served-small : (s : State) (c : ℕ) (t : Slots) → service_in s ≡ Of c t → c < 16
+served-small : (s : State) (c : ℕ) (t : Slots) → service_in s ≡ to_channel c t → c < 16
 unfolding service_in
 served-small s c t e = one-service.sixteen (matches s).slots t (asks_of (matches s)) c e
 
 -- the slot of a tick, which goes to nobody or to one channel
-pub walk-slot : (P : Service → State → Type 0) (s : State) → P Nobody (matches s) → ((c : ℕ) (u : Slots) → c < 16 → P (Of c u) (served c (with_slots (matches s) u))) → P (service_in s) (tick s)
+pub walk-slot : (P : Option Service → State → Type 0) (s : State) → P None (matches s) → ((c : ℕ) (u : Slots) → c < 16 → P (to_channel c u) (served c (with_slots (matches s) u))) → P (service_in s) (tick s)
 unfolding tick slot_served
 walk-slot P s none one = by (service_in s) refl
   where
-    by : (v : Service) → service_in s ≡ v → P v (slot_served v (matches s))
-    by (Of c u) e = one c u (served-small s c u e)
-    by Nobody e = none
+    by : (v : Option Service) → service_in s ≡ v → P v (slot_served v (matches s))
+    by (Some v) e = one v.channel v.slots (served-small s v.channel v.slots e)
+    by None e = none
 
 -- for one channel: whether the slot is its own, and how the slots stand after it
 pub walk-own : (P : Bool → Slots → State → Type 0) (c : ℕ) (s : State) → P false (matches s).slots (matches s)

@@ -1,18 +1,18 @@
 -- Term 3, about every list of calls from reset. Its words are those of crate motor, `Count`.
-use Rattle.std.specs.Prelude.{ℕ, ◌+◌, ◌*◌, ◌≤◌, true, false, List, [], ◌∷◌, ◌++◌, ◌≡◌, ◌≢◌, replicate}
+use Rattle.std.specs.Prelude.{ℕ, ◌+◌, ◌*◌, ◌≤◌, true, false, List, [], ◌∷◌, ◌++◌, ◌≡◌, ◌≢◌, replicate, Err}
 use Rattle.words.specs.declared.Timer.{Timer}
 use Rattle.words.specs.declared.Timer.TheVariants.{Tcr1, Tcr2}
 use Rattle.motor.specs.Stepping.{period}
 use Rattle.motor.specs.Track.{distance}
 use Rattle.motor.specs.Count.{Target, Moment, UnderWay, UpToArrival, Keeps, NoTarget, Undisturbed, Dark, EndsInTick, ticks_in, longest_wait, steps, Counted, Arrives}
 use Rattle.unit.specs.declared.State.{State}
-use Rattle.unit.specs.declared.Answer.TheVariants.{Refused}
 use Rattle.unit.specs.TheUnit.{reset_state, channel, position, target, next_rate, status, cntl0, cntl1, last, is_bound}
 use Rattle.unit.specs.Gate.{advance_good}
 use Rattle.unit.specs.Calls.{write_of, advance_of, lent_after, Call, Read, run, is_taken}
 use Rattle.unit.specs.Calls as calls
 use Rattle.history.specs.OneStep.{WholeSteps}
 use Rattle.history.specs.Moments.{Act, Ticks, Writes, acts, does, through, Typed, see, event_of, moments, SetsGoing}
+use Rattle.unit.specs.declared.Refusal.{Refusal}
 
 -- ---- the calls and what happens are the same thing
 
@@ -23,8 +23,8 @@ pub record CallsAre : Type 0 where
   pub advance-is : (s : State) (n : ℕ) (lent : List ℕ) → advance_good n lent ≡ true → (advance_of s n lent).state ≡ through s (replicate n Ticks)
   -- a read returns the state, and so does a call that is refused; it leaves the lent list
   pub read_keeps : (s : State) (a : ℕ) → calls.after (Read a) s ≡ s
-  pub write_keeps : (s : State) (a v n : ℕ) → (write_of s a v).answer ≡ Refused n → (write_of s a v).state ≡ s
-  pub advance-keeps : (s : State) (n : ℕ) (lent : List ℕ) (k : ℕ) → (advance_of s n lent).answer ≡ Refused k → ((advance_of s n lent).state ≡ s)
+  pub write_keeps : (s : State) (a v : ℕ) (r : Refusal) → (write_of s a v).answer ≡ Err r → (write_of s a v).state ≡ s
+  pub advance-keeps : (s : State) (n : ℕ) (lent : List ℕ) (r : Refusal) → (advance_of s n lent).answer ≡ Err r → ((advance_of s n lent).state ≡ s)
       × (lent_after s n lent ≡ lent)
 
 -- ---- a run, cut anywhere

@@ -14,7 +14,6 @@ use Rattle.words.proofs.ChoiceLaws.{pick-cases, same-pick, and_left, and_right}
 use Rattle.unit.specs.declared.State.{State}
 use Rattle.unit.specs.declared.Place.{Place}
 use Rattle.unit.specs.declared.Place.TheVariants.{AtRegister, AtWord, AtLate, Nowhere}
-use Rattle.unit.specs.declared.Verdict.TheVariants.{Refused}
 use Rattle.unit.specs.TheUnit.{reg, function, priority, cfsr_of, hsrr_of, cpr_of, exists}
 use Rattle.unit.specs.OneTick.{tick}
 use Rattle.unit.specs.Gate.{place, gate, ask_register, ask_place}
@@ -33,6 +32,8 @@ use Rattle.history.proofs.Always.{good-tick}
 use Rattle.isolation.specs.Row.{Row, in_row, Felt, Word, Function, Priority, Request, gather, new_function, new_priority, new_request, felt_at, felt_of, felt}
 use Rattle.isolation.specs.Abreast.{SameFor, LeavesAlone, Aside, Abreast, ended, ticked, first, second, both}
 use Rattle.isolation.proofs.Ideal.{kept}
+use Rattle.std.specs.Prelude.{Err}
+use Rattle.unit.specs.declared.Refusal.TheVariants.{NoSuchAddress}
 
 -- the row's fields of CFSR and CPR agree
 pub record Fields (r : Row) (s t : State) : Type 0 where
@@ -77,10 +78,10 @@ module _ (s : State) (z : Sized s) (a v : ℕ) (t : is_taken (write_of s a v).an
       subst (λ k. is_taken (answered_by k s).answer ≡ true → reg (answered_by k s).state i ≡ v) (sym g) (taken_yes (λ w. reg w i ≡ v) s (ask_register s i v) (reg-stored s i v z l n)) t
 
   -- where the place can not be written all registers stand
-  refused-at : (k : ℕ) (p : Place) → place a ≡ p → ask_place s p v ≡ Refused 1 → reg (does (Writes a v) s) k ≡ reg s k
+  refused-at : (k : ℕ) (p : Place) → place a ≡ p → ask_place s p v ≡ Err NoSuchAddress → reg (does (Writes a v) s) k ≡ reg s k
   unfolding does write_of answered_by
   refused-at k p e q =
-      let g : gate s a v ≡ Refused 1 = gate-place s a v ∙ ap (λ p. ask_place s p v) e ∙ q in
+      let g : gate s a v ≡ Err NoSuchAddress = gate-place s a v ∙ ap (λ p. ask_place s p v) e ∙ q in
       subst (λ y. reg (answered_by y s).state k ≡ reg s k) (sym g) refl
 
   -- a register is the one written, or stands

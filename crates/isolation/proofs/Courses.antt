@@ -21,7 +21,7 @@ use Rattle.unit.specs.TheUnit.{reset_state, cpr_of, priority, channel, pin_contr
 use Rattle.unit.specs.OneTick.{service_in, tick}
 use Rattle.unit.specs.Gate.{place}
 use Rattle.unit.specs.Calls.{write_of, is_taken}
-use Rattle.history.specs.Moments.{Act, Ticks, Writes, Nothing, acts, does, through, Typed, priority_of, see, is_target_of, event_of, moments}
+use Rattle.history.specs.Moments.{Act, Ticks, Writes, Nothing, does, through, Typed, priority_of, see, is_target_of, event_of, moments}
 use Rattle.history.specs.Always.{GroupShown}
 use Rattle.history.proofs.Look.{look}
 use Rattle.history.proofs.Own.{View, view_in, view, group_in}

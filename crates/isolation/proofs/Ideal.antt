@@ -18,8 +18,6 @@ use Rattle.motor.specs.Count.{Target}
 use Rattle.unit.specs.declared.Latches.{Latches}
 use Rattle.unit.specs.declared.Channel.{Channel}
 use Rattle.unit.specs.declared.State.{State}
-use Rattle.unit.specs.declared.Verdict.{Verdict}
-use Rattle.unit.specs.declared.Verdict.TheVariants.{Taken as Does, Refused as Stops}
 use Rattle.unit.specs.declared.Place.{Place}
 use Rattle.unit.specs.declared.Place.TheVariants.{AtRegister, AtWord, AtLate, Nowhere}
 use Rattle.unit.specs.TheUnit.{channel_at, cisr, reg, function, priority, with_reg, with_request, with_initialised, with_channel, with_binding, word, exists, channel, stepping, is_bound}
@@ -43,6 +41,8 @@ use Rattle.isolation.specs.Row.{Row, in_row, Felt, Passes, Word, Function, Prior
 use Rattle.isolation.specs.OneMove.{Untouched}
 use Rattle.history.proofs.Always.{good-tick}
 use Rattle.isolation.proofs.Settled.{rates_at, going, settled, at_rest, under-way, by_number, going-two, going-four, going-other, rates-again, settled-tick}
+use Rattle.std.specs.Prelude.{Err, Ok}
+use Rattle.unit.specs.Refusals.{Verdict}
 
 -- ---- words by channel and number
 
@@ -384,8 +384,8 @@ module _ (r : Row) (s : State) (x : Rest) (y : Settles r s x) (f : Fine s) (v : 
 -- a write that is not taken leaves the state
 pub kept : (k : Verdict) (s : State) → is_taken (answered_by k s).answer ≡ false → (answered_by k s).state ≡ s
 unfolding answered_by is_taken
-kept (Does d) s e = absurd (not-both refl e)
-kept (Stops n) s e = refl
+kept (Ok d) s e = absurd (not-both refl e)
+kept (Err n) s e = refl
 
 -- a target taken of a primary under way
 target-taken : (c a v : ℕ) (s : State) → place a ≡ AtWord c 3 → is_taken (write_of s a v).answer ≡ true → event_of c (Writes a v) s ≡ Target

@@ -1,13 +1,11 @@
 -- Which words a tick can change: CHANNEL_CONTROL, and of a primary under way its position and word 4: `kept-tick`.
-use Prim.Native.Nat.{ℕ, zero, suc, ◌+◌, ◌*◌, ◌<◌}
+use Prim.Native.Nat.{ℕ, ◌+◌, ◌*◌, ◌<◌}
 use native.Mathlib.Omega.{arith}
 use mathlib.Core.Bool.{true}
 use mathlib.Core.List.{List}
 use mathlib.Core.Path.{◌≡◌, refl, ap, sym, subst, ◌∙◌}
 use mathlib.Core.Logic.{◌≢◌, ◌⊎◌, inl, inr, ⊎_elim}
-use lib.Dec.{eqb}
 use lib.ListN.{get_or}
-use borrow.Author.Tests.{eqb-true}
 use Rattle.words.specs.Clock.{due}
 use Rattle.words.proofs.ChoiceLaws.{pick-cases}
 use Rattle.slots.specs.declared.Slots.{Slots}

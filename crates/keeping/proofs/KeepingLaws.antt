@@ -1,4 +1,4 @@
--- The answers in the paper's numbers, and the question that is put for all channels.
+-- The answers in numbers, and the question that is put for all channels.
 use Prim.Native.Nat.{ℕ, zero, suc, ◌+◌, ◌<◌}
 use native.Mathlib.Omega.{arith}
 use mathlib.Core.Bool.{Bool, true, false, not}
@@ -12,51 +12,50 @@ use Rattle.unit.specs.TheUnit.{all, hsrr_of, request, is_bound}
 use Rattle.unit.specs.Gate.{is_free}
 use Rattle.unit.specs.Takes.{Free}
 use Rattle.unit.proofs.Tests.{not_yes, all_yes}
-use Rattle.keeping.specs.declared.Kept.{Kept}
-use Rattle.keeping.specs.declared.Kept.TheVariants.{Taken, Refused}
+use Rattle.keeping.specs.declared.Refusal.{Refusal}
+use Rattle.keeping.specs.declared.Refusal.TheVariants.{NoVersion}
+use Rattle.std.proofs.Common.{Result, Ok, Err}
 use Rattle.keeping.specs.declared.Which.{Which}
-use Rattle.keeping.specs.declared.Chosen.{Chosen}
-use Rattle.keeping.specs.declared.Chosen.TheVariants.{Block, No}
 use Rattle.keeping.specs.declared.Loaded.{Loaded}
-use Rattle.keeping.specs.Keeping.{number_of, version_of, may_save, save_of, save_number, save_version, chosen, all_free, load_from, load_of, load_number, load_version}
+use Rattle.keeping.specs.Keeping.{refusal_number, number_of, version_of, may_save, save_of, save_number, save_version, chosen, all_free, load_from, load_of, load_number, load_version}
 
 -- ---- numbers
 
-save-number : (q : Bool) (v : ℕ) → number_of (pick q (Taken v) (Refused 12)) ≡ pick q 0 12
+save-number : (q : Bool) (v : ℕ) → number_of (pick q (Ok v) (Err NoVersion)) ≡ pick q 0 12
 unfolding number_of
 save-number true v = refl
 save-number false v = refl
 
-save-version : (q : Bool) (v : ℕ) → version_of (pick q (Taken v) (Refused 12)) ≡ pick q v 0
+save-version : (q : Bool) (v : ℕ) → version_of (pick q (Ok v) (Err NoVersion)) ≡ pick q v 0
 unfolding version_of
 save-version true v = refl
 save-version false v = refl
 
-pub save-numbers : (b : List ℕ) (r : Kept) → r ≡ save_of b → (number_of r ≡ save_number b) × (version_of r ≡ save_version b)
+pub save-numbers : (b : List ℕ) (r : Result ℕ Refusal) → r ≡ save_of b → (number_of r ≡ save_number b) × (version_of r ≡ save_version b)
 unfolding save_of save_number save_version
 save-numbers b r e = rw e (save-number (may_save b) _, save-version (may_save b) _)
 
-asked-number : (q : Bool) (s t : State) (v n : ℕ)
-    → number_of (ask {A = Loaded} q record { answer = Refused n; state = s } record { answer = Taken v; state = t }).answer ≡ pick q 0 n
+asked-number : (q : Bool) (s t : State) (v : ℕ) (r : Refusal)
+    → number_of (ask {A = Loaded} q record { answer = Err r; state = s } record { answer = Ok v; state = t }).answer ≡ pick q 0 (refusal_number r)
 unfolding ask number_of
-asked-number true s t v n = refl
-asked-number false s t v n = refl
+asked-number true s t v r = refl
+asked-number false s t v r = refl
 
-asked-version : (q : Bool) (s t : State) (v n : ℕ)
-    → version_of (ask {A = Loaded} q record { answer = Refused n; state = s } record { answer = Taken v; state = t }).answer ≡ pick q v 0
+asked-version : (q : Bool) (s t : State) (v : ℕ) (r : Refusal)
+    → version_of (ask {A = Loaded} q record { answer = Err r; state = s } record { answer = Ok v; state = t }).answer ≡ pick q v 0
 unfolding ask version_of
-asked-version true s t v n = refl
-asked-version false s t v n = refl
+asked-version true s t v r = refl
+asked-version false s t v r = refl
 
-from-number : (s : State) (b : List ℕ) (x : Chosen) → number_of (load_from s b x).answer ≡ load_number s x
+from-number : (s : State) (b : List ℕ) (x : Result ℕ Refusal) → number_of (load_from s b x).answer ≡ load_number s x
 unfolding number_of load_from load_number
-from-number s b (No n) = refl
-from-number s b (Block k) = asked-number (all_free s) s _ _ _
+from-number s b (Err r) = refl
+from-number s b (Ok k) = asked-number (all_free s) s _ _ _
 
-from-version : (s : State) (b : List ℕ) (x : Chosen) → version_of (load_from s b x).answer ≡ load_version s b x
+from-version : (s : State) (b : List ℕ) (x : Result ℕ Refusal) → version_of (load_from s b x).answer ≡ load_version s b x
 unfolding version_of load_from load_version
-from-version s b (No n) = refl
-from-version s b (Block k) = asked-version (all_free s) s _ _ _
+from-version s b (Err r) = refl
+from-version s b (Ok k) = asked-version (all_free s) s _ _ _
 
 pub load-numbers : (s : State) (w : Which) (b : List ℕ) (r : Loaded) → r ≡ load_of s w b
     → (number_of r.answer ≡ load_number s (chosen b w)) × (version_of r.answer ≡ load_version s b (chosen b w))

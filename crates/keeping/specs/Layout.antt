@@ -1,4 +1,4 @@
--- A board's settings, and the block that holds them. Paper 02, #102.
+-- A board's settings, and the block that holds them.
 use Rattle.std.specs.Prelude.{ℕ, zero, suc, ◌+◌, ◌-◌, ◌*◌, ◌/◌, ◌%◌, List, [], ◌∷◌, ◌++◌, ltb, eqb}
 use Rattle.words.specs.Choice.{pick}
 use Rattle.unit.specs.declared.State.{State}

@@ -1,27 +1,26 @@
 // A tick begins: the timers and the slot go on, and the matches that are due act, in lent words.
 #![tactic(auto)]
 
-ghost use Rattle.std.specs.Prelude.{◌≡◌, ◌<◌, length};
+ghost use Rattle.std.specs.Prelude.{◌≡◌, ◌<◌};
 ghost use Rattle.motor.specs.declared.Phase.TheVariants.{Armed};
 ghost use Rattle.unit.specs.TheUnit.{time_for, each};
 ghost use Rattle.unit.specs.Stepping.{pin_out, pins_out};
 ghost use Rattle.unit.specs.OneTick.{match_of, matched, clocked};
-ghost use Rattle.pack.specs.Packing.{state_words, state_in, Holds};
+ghost use Rattle.pack.specs.Packing.{state_in};
 
 use motor::Phase;
+use pack::{ChannelNumber, Words};
 
 // The time of the group of c.
-pub fn time_for(s: &[u16], c: u16) -> u16
-    requires { (length s.now ≡ state_words) × (c < 16) }
-    ensures { result ≡ time_for (state_in s.now) c }
+pub fn time_for(s: &Words, c: ChannelNumber) -> u16
+    ensures { result ≡ time_for (state_in s.now) c.number }
 {
     let timer = cells::timer(s, c);
     clock::time_by(timer, cells::timers(s))
 }
 
-pub fn clocked(s: &mut [u16])
-    requires { length s.old ≡ state_words }
-    ensures { Holds s.new (clocked (state_in s.old)) }
+pub fn clocked(s: &mut Words)
+    ensures { state_in s.new ≡ clocked (state_in s.old) }
 {
     let timers = clock::onward(1, cells::timers(s));
     let slots = cells::slots(s);
@@ -30,29 +29,31 @@ pub fn clocked(s: &mut [u16])
 }
 
 // The pin of channel j takes its prepared level.
-fn pin_out(s: &mut [u16], j: u16)
-    requires { (length s.old ≡ state_words) × (j < 16) }
-    ensures { Holds s.new (pin_out j (state_in s.old)) }
+fn pin_out(s: &mut Words, j: ChannelNumber)
+    ensures { state_in s.new ≡ pin_out j.number (state_in s.old) }
 {
     let on = cells::level(s, j);
     stores::put_pin(s, j, on);
 }
 
 // Those of the group of c.
-pub fn pins_out(s: &mut [u16], c: u16)
-    requires { (length s.old ≡ state_words) × (c < 16) }
-    ensures { Holds s.new (pins_out (state_in s.old) c) }
+pub fn pins_out(s: &mut Words, c: ChannelNumber)
+    ensures { state_in s.new ≡ pins_out (state_in s.old) c.number }
 {
     let n = fields::size(s, c);
     for k in 0..n {
-        pin_out(s, c + k);
+        pin_out(
+            s,
+            ChannelNumber {
+                number: c.number + k,
+            },
+        );
     }
 }
 
 // A match that is set for this time acts if it is due.
-fn armed(s: &mut [u16], c: u16, time: u16)
-    requires { (length s.old ≡ state_words) × (c < 16) }
-    ensures { Holds s.new (match_of (Armed time) c (state_in s.old)) }
+fn armed(s: &mut Words, c: ChannelNumber, time: u16)
+    ensures { state_in s.new ≡ match_of (Armed time) c.number (state_in s.old) }
 {
     let now = time_for(s, c);
     let t = clock::past(now, time);
@@ -63,24 +64,18 @@ fn armed(s: &mut [u16], c: u16, time: u16)
     }
 }
 
-fn match_one(s: &mut [u16], c: u16)
-    requires { (length s.old ≡ state_words) × (c < 16) }
-    ensures { Holds s.new (matched c (state_in s.old)) }
+fn match_one(s: &mut Words, c: ChannelNumber)
+    ensures { state_in s.new ≡ matched c.number (state_in s.old) }
 {
-    let p = cells::phase(s, c);
-    match p {
-        Phase::Resting => {}
-        Phase::Requested => {}
-        Phase::Armed(time) => armed(s, c, time),
-        Phase::Matched(_, _) => {}
+    if let Phase::Armed(time) = cells::phase(s, c) {
+        armed(s, c, time);
     }
 }
 
-pub fn match_all(s: &mut [u16])
-    requires { length s.old ≡ state_words }
-    ensures { Holds s.new (each 16 0 matched (state_in s.old)) }
+pub fn match_all(s: &mut Words)
+    ensures { state_in s.new ≡ each 16 0 matched (state_in s.old) }
 {
     for c in 0..16 {
-        match_one(s, c);
+        match_one(s, ChannelNumber { number: c });
     }
 }

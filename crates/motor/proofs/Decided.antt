@@ -5,20 +5,19 @@ use mathlib.Core.Path.{◌≡◌, refl, subst}
 use mathlib.Core.Logic.{◌≢◌, ◌⊎◌, inl, inr, ⊎_elim}
 use lib.Dec.{ltb, leb, eqb}
 use borrow.Author.Tests.{eqb-false}
+use Rattle.std.specs.Prelude.{Option, Some, None}
 use Rattle.words.proofs.ChoiceLaws.{pick-cases, tests}
 use Rattle.motor.specs.declared.Way.{Way}
 use Rattle.motor.specs.declared.Way.TheVariants.{Right, Left}
 use Rattle.motor.specs.declared.Motor.{Motor}
 use Rattle.motor.specs.declared.Outcome.{Outcome}
 use Rattle.motor.specs.declared.Outcome.TheVariants.{Arrived, Step}
-use Rattle.motor.specs.declared.Choice.{Choice}
-use Rattle.motor.specs.declared.Choice.TheVariants.{Onward, Back}
 use Rattle.motor.specs.Stepping.{ahead, accelerates, choice, steps, test, turn, on_request, on_match}
 use Rattle.motor.specs.SlowMoves.{Pace}
 use Rattle.motor.proofs.SlowMoves.{choice-pace}
 
 -- a turn that steps has places ahead or a rate to slow down from
-onward-why : (d top k j : ℕ) → choice d top k ≡ Onward j → (1 ≤ d) ⊎ (2 ≤ k)
+onward-why : (d top k j : ℕ) → choice d top k ≡ Some j → (1 ≤ d) ⊎ (2 ≤ k)
 unfolding choice accelerates
 onward-why d top k j =
     pick-cases P (accelerates d top) (λ a e. inl (omega (arith, tests)))
@@ -26,32 +25,32 @@ onward-why d top k j =
     (λ b. pick-cases P (ltb 0 d) (λ t e. inl (omega (arith, tests))) (λ t e. absurd (back e)))
     (λ b e. inr (omega (arith, tests))))
   where
-    P : Choice → Type 0
-    P c = c ≡ Onward j → (1 ≤ d) ⊎ (2 ≤ k)
+    P : Option ℕ → Type 0
+    P c = c ≡ Some j → (1 ≤ d) ⊎ (2 ≤ k)
 
-    back : Back ≡ Onward j → ⊥
+    back : None ≡ Some j → ⊥
     back e = let z : ◌≡◌ {A = ℕ} 0 1 = cc in omega arith
 
 -- one that goes back to the test is at rate 1, with the target not ahead
-back-why : (d top k : ℕ) → choice d top k ≡ Back → (d ≡ 0) × (k ≤ 1)
+back-why : (d top k : ℕ) → choice d top k ≡ None → (d ≡ 0) × (k ≤ 1)
 unfolding choice accelerates
 back-why d top k =
     pick-cases P (accelerates d top) (λ a. pick-cases P (ltb k top) (λ b. on) (λ b. on))
     (λ a. pick-cases P (leb k 1) (λ b. pick-cases P (ltb 0 d) (λ t. on) (λ t e. (omega (arith, tests), omega (arith, tests)))) (λ b. on))
   where
-    P : Choice → Type 0
-    P c = c ≡ Back → (d ≡ 0) × (k ≤ 1)
+    P : Option ℕ → Type 0
+    P c = c ≡ None → (d ≡ 0) × (k ≤ 1)
 
-    on : {i : ℕ} → P (Onward i)
+    on : {i : ℕ} → P (Some i)
     on e = absurd (let z : ◌≡◌ {A = ℕ} 0 1 = cc in omega arith)
 
 -- a step of a turn is the turn's own, or that of what follows it
-turn-splits : (w v : Way) (j : ℕ) (c : Choice) (back : Outcome) → steps w c back ≡ Step v j → ((w ≡ v) × (c ≡ Onward j)) ⊎ ((c ≡ Back) × (back ≡ Step v j))
-turn-splits w v j (Onward k) back e = inl (cc, cc)
-turn-splits w v j Back back e = inr (refl, e)
+turn-splits : (w v : Way) (j : ℕ) (c : Option ℕ) (back : Outcome) → steps w c back ≡ Step v j → ((w ≡ v) × (c ≡ Some j)) ⊎ ((c ≡ None) × (back ≡ Step v j))
+turn-splits w v j (Some k) back e = inl (cc, cc)
+turn-splits w v j None back e = inr (refl, e)
 
 -- the step of a turn that has nothing behind it
-last_turn : (w v : Way) (m : Motor) (j : ℕ) → turn 1 w m ≡ Step v j → (w ≡ v) × (choice (ahead w m) m.top m.rate ≡ Onward j)
+last_turn : (w v : Way) (m : Motor) (j : ℕ) → turn 1 w m ≡ Step v j → (w ≡ v) × (choice (ahead w m) m.top m.rate ≡ Some j)
 unfolding turn test
 last_turn w v m j e =
     ⊎_elim (λ x. x) (λ x. absurd (none x.1)) (turn-splits w v j (choice (ahead w m) m.top m.rate) Arrived e)
@@ -62,7 +61,7 @@ last_turn w v m j e =
 -- what the test decides: towards the target, and by the turn that way
 record Towards (w : Way) (m : Motor) (j : ℕ) : Type 0 where
   some : 1 ≤ ahead w m
-  choice : choice (ahead w m) m.top m.rate ≡ Onward j
+  choice : choice (ahead w m) m.top m.rate ≡ Some j
 
 towards : (w v : Way) (m : Motor) (j : ℕ) → 1 ≤ ahead w m → turn 1 w m ≡ Step v j → Towards v m j
 towards w v m j a e =
@@ -99,7 +98,7 @@ pub match-decides : (w : Way) (m : Motor) (j : ℕ) → 1 ≤ m.rate → on_matc
 unfolding on_match turn
 match-decides w m j l e =
     ⊎_elim
-    (λ x. let q : choice (ahead w m) m.top m.rate ≡ Onward j = subst (λ (y : Way). choice (ahead y m) m.top m.rate ≡ Onward j) x.0 x.1 in
+    (λ x. let q : choice (ahead w m) m.top m.rate ≡ Some j = subst (λ (y : Way). choice (ahead y m) m.top m.rate ≡ Some j) x.0 x.1 in
     (inl (x.0, onward-why (ahead w m) m.top m.rate j q), choice-pace (ahead w m) m.top m.rate j l q))
     (λ x. let y : Towards w m j = test-why w m j x.1 in
     let b = back-why (ahead m.way m) m.top m.rate x.0 in

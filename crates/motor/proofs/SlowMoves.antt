@@ -9,6 +9,7 @@ use mathlib.Core.List.{List, [], ◌∷◌, ◌++◌}
 use mathlib.Core.Option.{Option, none, some}
 use lib.Dec.{ltb, leb, eqb}
 use borrow.Author.Tests.{eq-eqb, ne_eqb, le-ltb, eqb-false}
+use Rattle.std.specs.Prelude.{Option as Chosen, Some, None}
 use Rattle.words.specs.Choice.{pick}
 use Rattle.words.specs.Clock.{due}
 use Rattle.words.proofs.ChoiceLaws.{pick-cases, not-both, tests}
@@ -19,8 +20,6 @@ use Rattle.motor.specs.declared.Phase.{Phase}
 use Rattle.motor.specs.declared.Phase.TheVariants.{Resting, Requested, Armed, Matched}
 use Rattle.motor.specs.declared.Outcome.{Outcome}
 use Rattle.motor.specs.declared.Outcome.TheVariants.{Arrived, Step}
-use Rattle.motor.specs.declared.Choice.{Choice}
-use Rattle.motor.specs.declared.Choice.TheVariants.{Onward, Back}
 use Rattle.motor.specs.Stepping.{ahead, accelerates, choice, steps, test, turn, on_request, on_match, beside, moved}
 use Rattle.motor.specs.Track.{distance, Valid}
 use Rattle.motor.specs.Group.{Group, time_of, next_time, bound, armed, happened, outcome, serve, clocked, tick, altered, Sound, SlowAtFirst}
@@ -34,7 +33,7 @@ use Rattle.motor.proofs.Counts.{ticked-sound, altered-sound, after-moments, coun
 -- ---- one decision
 
 -- with way to go a turn makes a step, and it keeps the pace
-pub choice-pace : (d top k j : ℕ) → 1 ≤ k → choice d top k ≡ Onward j → Pace top d k j
+pub choice-pace : (d top k j : ℕ) → 1 ≤ k → choice d top k ≡ Some j → Pace top d k j
 unfolding choice accelerates
 choice-pace d top k j l =
     pick-cases P (accelerates d top)
@@ -45,25 +44,25 @@ choice-pace d top k j l =
     (λ b. pick-cases P (ltb 0 d) (λ t. is k (λ x y. absurd (omega (arith, tests))) (λ x y. absurd (omega (arith, tests))) (λ x. omega (arith, tests))) (λ t e. absurd (back e)))
     (λ b. is (k - 1) (λ x y. absurd (omega (arith, tests))) (λ x y. absurd (omega (arith, tests))) (λ x. omega (arith, tests))))
   where
-    P : Choice → Type 0
-    P c = c ≡ Onward j → Pace top d k j
+    P : Chosen ℕ → Type 0
+    P c = c ≡ Some j → Pace top d k j
 
-    back : Back ≡ Onward j → ⊥
+    back : None ≡ Some j → ⊥
     back e = let z : ◌≡◌ {A = ℕ} 0 1 = cc in omega arith
 
-    is : (i : ℕ) → (top < d → k < top → i ≡ suc k) → (top < d → k ≡ top → i ≡ top) → (d ≤ top → i ≡ max 1 (k - 1)) → P (Onward i)
+    is : (i : ℕ) → (top < d → k < top → i ≡ suc k) → (top < d → k ≡ top → i ≡ top) → (d ≤ top → i ≡ max 1 (k - 1)) → P (Some i)
     is i a b c e = let q : i ≡ j = cc in record { rises = λ x y. sym q ∙ a x y; stays = λ x y. sym q ∙ b x y; falls = λ x. sym q ∙ c x }
 
-never_back : (d top k : ℕ) → 0 < d → choice d top k ≡ Back → ⊥
+never_back : (d top k : ℕ) → 0 < d → choice d top k ≡ None → ⊥
 unfolding choice
 never_back d top k h =
     pick-cases P (accelerates d top) (λ a. pick-cases P (ltb k top) (λ b. on) (λ b. on))
     (λ a. pick-cases P (leb k 1) (λ b. pick-cases P (ltb 0 d) (λ t. on) (λ t. absurd (omega (arith, tests)))) (λ b. on))
   where
-    P : Choice → Type 0
-    P c = c ≡ Back → ⊥
+    P : Chosen ℕ → Type 0
+    P c = c ≡ None → ⊥
 
-    on : {i : ℕ} → P (Onward i)
+    on : {i : ℕ} → P (Some i)
     on e = let z : ◌≡◌ {A = ℕ} 0 1 = cc in omega arith
 
 -- all the places to the target lie ahead, and the rate is at most their number
@@ -104,9 +103,9 @@ heads-turn : (w : Way) (m : Motor) (back : Outcome) → Valid m → distance m.p
 unfolding Heads moved
 heads-turn w m back v e l h = by (choice (ahead w m) m.top m.rate) refl
   where
-    by : (c : Choice) → choice (ahead w m) m.top m.rate ≡ c → Heads m (steps w c back)
-    by Back q = absurd (never_back (ahead w m) m.top m.rate h q)
-    by (Onward k) q =
+    by : (c : Chosen ℕ) → choice (ahead w m) m.top m.rate ≡ c → Heads m (steps w c back)
+    by None q = absurd (never_back (ahead w m) m.top m.rate h q)
+    by (Some k) q =
         let x : Closer w k m = closer w k m v e h in
         let y : suc (ahead w m - 1) ≡ ahead w m = omega arith in
         let z : k ≤ max 1 (ahead w m - 1) = slow-ends.last (ahead w m - 1) m.top m.rate k v.most (omega (arith, v.least)) (ap (λ n. choice n m.top m.rate) y ∙ q) in

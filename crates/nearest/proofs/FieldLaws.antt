@@ -1,21 +1,19 @@
 -- The count of a float, read off the fields of its bit pattern: the sign, the exponent's field and the digits below the leading one.
 use mathlib.Core.Path.{◌≡◌, refl, sym, ap, subst, ◌∙◌}
 use mathlib.Core.Logic.{⊎_elim}
-use mathlib.Core.Bool.{Bool, true, false, not, cond, true≢false}
+use mathlib.Core.Bool.{Bool, true, false, cond}
 use Prim.Native.Nat.{ℕ, suc, ◌+◌, ◌-◌, ◌*◌, ◌/◌, ◌%◌, ◌^◌, ◌≤◌, ◌<◌}
 use native.Mathlib.Nat.{pow-suc, mul-div-mul_left, add-mul, mul_assoc, mul-pos, mul-one, mul-le-mul_right, eq-zero-or-pos, eq-or-lt_of_le, lt_of_lt_of_le}
 use native.Mathlib.Omega.{arith}
 use borrow.Author.Tests.{le-leb, lt-leb, ne_eqb}
 use lib.Dec.{T, leb, eqb}
 use lib.Pow.{pow_pos, pow_mono, pow-add, shl_lt, shl_exact}
-use lib.Ieee.{Float, nan, inf, fin, binary64, fits, is_nan, ne, odd, of_fields, of_bits, to_bits}
+use lib.Ieee.{Float, nan, inf, fin, binary64, fits, is_nan, odd, of_fields, of_bits, to_bits}
 use lib.Ieee.Exact.{odd_sign}
-use lib.Ieee.Compare.{differs_from_itself}
 use lib.Ieee.Bits.{of_bits-to_bits, to_bits-lt}
 use lib.Bits.{bit_and, and_mask}
 use Rattle.nearest.specs.Counting.{half_up, in_count, counted, count_of}
-use Rattle.nearest.specs.declared.Count.{Count}
-use Rattle.nearest.specs.declared.Count.TheVariants.{Whole, Outside}
+use Rattle.std.specs.Prelude.{Option, Some, None}
 use Rattle.nearest.proofs.ValueLaws.{counted_same, count-value, counted-small, counted-large}
 
 -- 2 ^ 52, the weight of the leading digit, and 2 ^ 63, that of the sign
@@ -84,11 +82,11 @@ at-normal s x t h k =
     subst (λ (n : ℕ). count_of (of_fields binary64 s n t) ≡ counted s (sized (x - 1) t) (2 ^ 1074)) e (at_suc s (x - 1) t (omega arith))
 
 -- the highest field is that of an infinity or a NaN
-at_ones : (s : Bool) (t : ℕ) → count_of (of_fields binary64 s 2047 t) ≡ Outside
+at_ones : (s : Bool) (t : ℕ) → count_of (of_fields binary64 s 2047 t) ≡ None
 unfolding of_fields count_of
 at_ones s t = go (eqb t 0)
   where
-    go : (b : Bool) → count_of (cond b (inf s) nan) ≡ Outside
+    go : (b : Bool) → count_of (cond b (inf s) nan) ≡ None
     go true = refl
     go false = refl
 
@@ -105,45 +103,45 @@ unfolding sized
 sized-lt x t j k h = lt_of_lt_of_le (shl_lt {a = lead + t} 53 x (omega arith)) (pow_mono {i = 53 + x} {j = j} h)
 
 -- less than one half
-at_small : (s : Bool) (x t : ℕ) → t < lead → x < 1022 → count_of (of_fields binary64 s x t) ≡ Whole 0
+at_small : (s : Bool) (x t : ℕ) → t < lead → x < 1022 → count_of (of_fields binary64 s x t) ≡ Some 0
 at_small s x t k h = ⊎_elim low normal (eq-zero-or-pos x)
   where
-    low : x ≡ 0 → count_of (of_fields binary64 s x t) ≡ Whole 0
+    low : x ≡ 0 → count_of (of_fields binary64 s x t) ≡ Some 0
     low e =
         rw (e, at_zero s t, mul-one t)
         (counted-small s t (2 ^ 1074) (twice-lt t (2 ^ 1073) (lt_of_lt_of_le k (pow_mono {i = 52} {j = 1073} (omega arith)))))
 
-    normal : 0 < x → count_of (of_fields binary64 s x t) ≡ Whole 0
+    normal : 0 < x → count_of (of_fields binary64 s x t) ≡ Some 0
     normal p =
         at-normal s x t p (omega arith) ∙ counted-small s (sized (x - 1) t) (2 ^ 1074) (twice-lt (sized (x - 1) t) (2 ^ 1073) (sized-lt (x - 1) t 1073 k (omega arith)))
 
 -- 2 ^ 15 or more, or infinite
-at-large : (s : Bool) (x t : ℕ) → 1037 < x → x < 2048 → count_of (of_fields binary64 s x t) ≡ Outside
+at-large : (s : Bool) (x t : ℕ) → 1037 < x → x < 2048 → count_of (of_fields binary64 s x t) ≡ None
 at-large s x t h k = ⊎_elim top normal (eq-or-lt_of_le up_to)
   where
     up_to : x ≤ 2047
     up_to = omega arith
 
-    top : x ≡ 2047 → count_of (of_fields binary64 s x t) ≡ Outside
+    top : x ≡ 2047 → count_of (of_fields binary64 s x t) ≡ None
     top e = rw e (at_ones s t)
 
-    normal : x < 2047 → count_of (of_fields binary64 s x t) ≡ Outside
+    normal : x < 2047 → count_of (of_fields binary64 s x t) ≡ None
     normal p =
         at-normal s x t (omega arith) p ∙ counted-large s (sized (x - 1) t) (2 ^ 1074) (pow_pos 1074) (sized-ge (x - 1) t 1037 (omega arith))
 
 -- -1/2, and what lies below it
-at-minus-half : count_of (of_fields binary64 true 1022 0) ≡ Whole 0
+at-minus-half : count_of (of_fields binary64 true 1022 0) ≡ Some 0
 unfolding sized
 at-minus-half = at-normal true 1022 0 (omega arith) (omega arith)
 
-past-half : (x t : ℕ) → 0 < x → x < 2047 → 2 ^ 1074 < 2 * sized (x - 1) t → count_of (of_fields binary64 true x t) ≡ Outside
+past-half : (x t : ℕ) → 0 < x → x < 2047 → 2 ^ 1074 < 2 * sized (x - 1) t → count_of (of_fields binary64 true x t) ≡ None
 past-half x t p h l = at-normal true x t p h ∙ rw (lt-leb (2 * sized (x - 1) t) (2 ^ 1074) l)
 
-at-minus-more : (x t : ℕ) → 1022 < x → x < 2047 → count_of (of_fields binary64 true x t) ≡ Outside
+at-minus-more : (x t : ℕ) → 1022 < x → x < 2047 → count_of (of_fields binary64 true x t) ≡ None
 at-minus-more x t h k =
     past-half x t (omega arith) k (lt-twice (sized (x - 1) t) (2 ^ 1074) (pow_pos 1074) (sized-ge (x - 1) t 1022 (omega arith)))
 
-at-under-half : (t : ℕ) → 0 < t → count_of (of_fields binary64 true 1022 t) ≡ Outside
+at-under-half : (t : ℕ) → 0 < t → count_of (of_fields binary64 true 1022 t) ≡ None
 unfolding sized
 at-under-half t h = past-half 1022 t (omega arith) (omega arith) (more_lt lead t (2 ^ 1021) h (pow_pos 1021))
 
@@ -158,16 +156,11 @@ at-middle x t h k =
 
 -- ---- as the code has it
 
--- only a NaN differs from itself
-pub nan-outside : (q : Float) → ne q q ≡ true → Outside ≡ count_of q
-unfolding count_of
-nan-outside q h = rw (differs_from_itself q (subst T (sym h) tt))
-
-pub no_nan : (q : Float) → ne q q ≡ false → T (not (is_nan q))
-unfolding ne is_nan
-no_nan nan h = absurd (true≢false h)
-no_nan (inf s) h = tt
-no_nan (fin s m e) h = tt
+pub nan-outside : (q : Float) → is_nan q ≡ true → None ≡ count_of q
+unfolding count_of is_nan
+nan-outside nan h = refl
+nan-outside (inf s) h = cc
+nan-outside (fin s m e) h = cc
 
 -- a float with its bits, and the two fields as the code takes them out
 abbrev pub bits : Float → ℕ
@@ -199,7 +192,7 @@ sign-clear-below b h n = lt-leb sign_bit b (omega arith)
 
 module _ (q : Float) (h : T (fits binary64 q)) where
   -- what is shown of the fields is shown of the float
-  by-fields : (s : Bool) (k : Count) → leb sign_bit (bits q) ≡ s → count_of (of_fields binary64 s (exponent q) (digits q)) ≡ k → k ≡ count_of q
+  by-fields : (s : Bool) (k : Option ℕ) → leb sign_bit (bits q) ≡ s → count_of (of_fields binary64 s (exponent q) (digits q)) ≡ k → k ≡ count_of q
   by-fields s k e g =
       sym (ap count_of (read-fields q h) ∙ rw (e, ← and_mask (bits q / lead) 11, ← and_mask (bits q) 52) g)
 
@@ -209,20 +202,20 @@ module _ (q : Float) (h : T (fits binary64 q)) where
   sign_clear : (bits q / sign_bit ≡ 1 → ⊥) → leb sign_bit (bits q) ≡ false
   sign_clear n = sign-clear-below (bits q) (to_bits-lt binary64 q h) n
 
-  pub small : exponent q < 1022 → Whole 0 ≡ count_of q
-  small l = by-fields (leb sign_bit (bits q)) (Whole 0) refl (at_small (leb sign_bit (bits q)) (exponent q) (digits q) (digits_lt q) l)
+  pub small : exponent q < 1022 → Some 0 ≡ count_of q
+  small l = by-fields (leb sign_bit (bits q)) (Some 0) refl (at_small (leb sign_bit (bits q)) (exponent q) (digits q) (digits_lt q) l)
 
-  pub large : 1037 < exponent q → Outside ≡ count_of q
-  large l = by-fields (leb sign_bit (bits q)) Outside refl (at-large (leb sign_bit (bits q)) (exponent q) (digits q) l (exponent_lt q))
+  pub large : 1037 < exponent q → None ≡ count_of q
+  large l = by-fields (leb sign_bit (bits q)) None refl (at-large (leb sign_bit (bits q)) (exponent q) (digits q) l (exponent_lt q))
 
-  pub minus-half : bits q / sign_bit ≡ 1 → exponent q ≡ 1022 → digits q ≡ 0 → Whole 0 ≡ count_of q
-  minus-half n x t = by-fields true (Whole 0) (sign_set n) (rw (x, t) at-minus-half)
+  pub minus-half : bits q / sign_bit ≡ 1 → exponent q ≡ 1022 → digits q ≡ 0 → Some 0 ≡ count_of q
+  minus-half n x t = by-fields true (Some 0) (sign_set n) (rw (x, t) at-minus-half)
 
-  pub under-half : bits q / sign_bit ≡ 1 → exponent q ≡ 1022 → (digits q ≡ 0 → ⊥) → Outside ≡ count_of q
-  under-half n x t = by-fields true Outside (sign_set n) (rw x (at-under-half (digits q) (omega arith)))
+  pub under-half : bits q / sign_bit ≡ 1 → exponent q ≡ 1022 → (digits q ≡ 0 → ⊥) → None ≡ count_of q
+  under-half n x t = by-fields true None (sign_set n) (rw x (at-under-half (digits q) (omega arith)))
 
-  pub minus-more : bits q / sign_bit ≡ 1 → 1022 ≤ exponent q → exponent q ≤ 1037 → (exponent q ≡ 1022 → ⊥) → Outside ≡ count_of q
-  minus-more n a b x = by-fields true Outside (sign_set n) (at-minus-more (exponent q) (digits q) (omega arith) (omega arith))
+  pub minus-more : bits q / sign_bit ≡ 1 → 1022 ≤ exponent q → exponent q ≤ 1037 → (exponent q ≡ 1022 → ⊥) → None ≡ count_of q
+  minus-more n a b x = by-fields true None (sign_set n) (at-minus-more (exponent q) (digits q) (omega arith) (omega arith))
 
   pub middle : (bits q / sign_bit ≡ 1 → ⊥) → 1022 ≤ exponent q → exponent q ≤ 1037 → in_count (half_up (lead + digits q) (2 ^ (1075 - exponent q))) ≡ count_of q
   middle n a b = by-fields false (in_count (half_up (lead + digits q) (2 ^ (1075 - exponent q)))) (sign_clear n) (at-middle (exponent q) (digits q) (omega arith) (omega arith))

@@ -14,30 +14,26 @@ use Rattle.floats.specs.Plain.{is_plain}
 use Rattle.floats.proofs.Quotient.{or-le}
 use Rattle.nearest.specs.Counting.{half_up, in_count, count_of}
 use Rattle.nearest.specs.Claims.{is_outside, Nearest}
-use Rattle.nearest.specs.declared.Count.TheVariants.{Whole, Outside}
+use Rattle.std.specs.Prelude.{Some, None}
 use Rattle.nearest.proofs.ValueLaws.{half-mono, half-from, half-to, half-large, same-le}
 
--- a count is not both
-pub no-count : {A : Type 0} (k : ℕ) → Outside ≡ Whole k → A
-no-count k e = let z : ◌≡◌ {A = ℕ} 0 1 = cc in absurd (omega arith)
-
-in_count_lem : (j k : ℕ) → in_count j ≡ Whole k → j ≡ k
+in_count_lem : (j k : ℕ) → in_count j ≡ Some k → j ≡ k
 in_count_lem j k = go (leb j 0x7fff)
   where
-    go : (b : Bool) → pick b (Whole j) Outside ≡ Whole k → j ≡ k
+    go : (b : Bool) → pick b (Some j) None ≡ Some k → j ≡ k
     go true e = cc
-    go false e = no-count k e
+    go false e = cc
 
-in-range : (j k : ℕ) → in_count j ≡ Whole k → k ≤ 0x7fff
+in-range : (j k : ℕ) → in_count j ≡ Some k → k ≤ 0x7fff
 in-range j k = go (leb j 0x7fff) refl
   where
-    go : (b : Bool) → leb j 0x7fff ≡ b → pick b (Whole j) Outside ≡ Whole k → k ≤ 0x7fff
+    go : (b : Bool) → leb j 0x7fff ≡ b → pick b (Some j) None ≡ Some k → k ≤ 0x7fff
     go true t e = let i : j ≡ k = cc in omega (arith, leb-true j 0x7fff t)
-    go false t e = no-count k e
+    go false t e = cc
 
 -- ---- from zero up
 
-within : (m : ℕ) (e : ℤ) (k : ℕ) → count_of (fin false m e) ≡ Whole k → (2 * k * down e ≤ 2 * (m * up e) + down e) × (2 * (m * up e) + down e < 2 * (k + 1) * down e)
+within : (m : ℕ) (e : ℤ) (k : ℕ) → count_of (fin false m e) ≡ Some k → (2 * k * down e ≤ 2 * (m * up e) + down e) × (2 * (m * up e) + down e < 2 * (k + 1) * down e)
 unfolding count_of
 within m e k h =
     let i = in_count_lem (half_up (m * up e) (down e)) k h in
@@ -46,7 +42,7 @@ within m e k h =
 outside-is : (j : ℕ) → is_outside (in_count j) ≡ leb 32768 j
 outside-is j = go (leb j 0x7fff) refl
   where
-    go : (b : Bool) → leb j 0x7fff ≡ b → is_outside (pick b (Whole j) Outside) ≡ leb 32768 j
+    go : (b : Bool) → leb j 0x7fff ≡ b → is_outside (pick b (Some j) None) ≡ leb 32768 j
     go true t = sym (lt-leb 32768 j (omega (arith, leb-true j 0x7fff t)))
     go false t = sym (le-leb 32768 j (omega (arith, leb-false j 0x7fff t)))
 
@@ -66,26 +62,26 @@ far m e =
 
 -- ---- below zero
 
-below : (m : ℕ) (e : ℤ) (k : ℕ) → count_of (fin true m e) ≡ Whole k → (k ≡ 0) × (2 * (m * up e) ≤ down e)
+below : (m : ℕ) (e : ℤ) (k : ℕ) → count_of (fin true m e) ≡ Some k → (k ≡ 0) × (2 * (m * up e) ≤ down e)
 unfolding count_of
 below m e k = go (leb (2 * (m * up e)) (down e)) refl
   where
-    go : (b : Bool) → leb (2 * (m * up e)) (down e) ≡ b → pick b (Whole 0) Outside ≡ Whole k → (k ≡ 0) × (2 * (m * up e) ≤ down e)
+    go : (b : Bool) → leb (2 * (m * up e)) (down e) ≡ b → pick b (Some 0) None ≡ Some k → (k ≡ 0) × (2 * (m * up e) ≤ down e)
     go true t h = (cc, leb-true (2 * (m * up e)) (down e) t)
-    go false t h = no-count k h
+    go false t h = cc
 
 under : (m : ℕ) (e : ℤ) → is_outside (count_of (fin true m e)) ≡ not (leb (2 * (m * up e)) (down e))
 unfolding count_of
 under m e = go (leb (2 * (m * up e)) (down e))
   where
-    go : (b : Bool) → is_outside (pick b (Whole 0) Outside) ≡ not b
+    go : (b : Bool) → is_outside (pick b (Some 0) None) ≡ not b
     go true = refl
     go false = refl
 
-up_to : (x : Float) (k : ℕ) → count_of x ≡ Whole k → k ≤ 0x7fff
+up_to : (x : Float) (k : ℕ) → count_of x ≡ Some k → k ≤ 0x7fff
 unfolding count_of
-up_to nan k h = no-count k h
-up_to (inf s) k h = no-count k h
+up_to nan k h = cc
+up_to (inf s) k h = cc
 up_to (fin false m e) k h = in-range (half_up (m * up e) (down e)) k h
 up_to (fin true m e) k h = omega (arith, (below m e k h).0)
 
@@ -95,13 +91,13 @@ none = (refl, λ s. refl)
 
 -- ---- in order
 
-ordered : (x y : Float) (p q : ℕ) → T (is_plain x) → T (is_plain y) → T (le x y) → count_of x ≡ Whole p → count_of y ≡ Whole q → p ≤ q
+ordered : (x y : Float) (p q : ℕ) → T (is_plain x) → T (is_plain y) → T (le x y) → count_of x ≡ Some p → count_of y ≡ Some q → p ≤ q
 unfolding count_of le
 ordered nan y p q X Y l a b = absurd X
-ordered (inf s) y p q X Y l a b = no-count p a
+ordered (inf s) y p q X Y l a b = cc
 ordered (fin true m e) y p q X Y l a b = absurd X
 ordered (fin false m e) nan p q X Y l a b = absurd Y
-ordered (fin false m e) (inf t) p q X Y l a b = no-count q b
+ordered (fin false m e) (inf t) p q X Y l a b = cc
 ordered (fin false m e) (fin true n d) p q X Y l a b = absurd Y
 ordered (fin false m e) (fin false n d) p q X Y l a b =
     let i = in_count_lem (half_up (m * up e) (down e)) p a in

@@ -12,7 +12,7 @@ use lib.Ieee.Exact.{HasValue}
 use lib.Ieee.Nearest.{div_same, div_mono}
 use Rattle.words.specs.Choice.{pick}
 use Rattle.nearest.specs.Counting.{half_up, in_count, counted, count_of}
-use Rattle.nearest.specs.declared.Count.TheVariants.{Whole, Outside}
+use Rattle.std.specs.Prelude.{Some, None}
 
 -- ---- half_up
 
@@ -78,7 +78,7 @@ half_le a b c d B h k =
 pub counted_same : (s : Bool) (a b c d : ℕ) → 0 < b → 0 < d → a * d ≡ c * b → counted s a b ≡ counted s c d
 counted_same false a b c d B D h = ap in_count (half-same a b c d B D h)
 counted_same true a b c d B D h =
-    ap (λ (t : Bool). pick t (Whole 0) Outside) (same-le (2 * a) b (2 * c) d (half_le a b c d B h) (half_le c d a b D (sym h)))
+    ap (λ (t : Bool). pick t (Some 0) None) (same-le (2 * a) b (2 * c) d (half_le a b c d B h) (half_le c d a b D (sym h)))
 
 pub count-value : (x : Float) (s : Bool) (a c : ℕ) → 0 < c → HasValue x s a c → count_of x ≡ counted s a c
 unfolding count_of
@@ -88,12 +88,12 @@ count-value (fin t m e) s a c p v = rw v.0 (counted_same s (m * up e) (down e) a
 
 -- ---- small and large values
 
-pub counted-small : (s : Bool) (a c : ℕ) → 2 * a < c → counted s a c ≡ Whole 0
+pub counted-small : (s : Bool) (a c : ℕ) → 2 * a < c → counted s a c ≡ Some 0
 unfolding half_up
 counted-small false a c h = let l : 2 * a + c < 2 * c = omega arith in rw (div-eq_of_lt l)
 counted-small true a c h = let l : 2 * a ≤ c = omega arith in rw (le-leb (2 * a) c l)
 
-pub counted-large : (s : Bool) (a c : ℕ) → 0 < c → 32768 * c ≤ a → counted s a c ≡ Outside
+pub counted-large : (s : Bool) (a c : ℕ) → 0 < c → 32768 * c ≤ a → counted s a c ≡ None
 counted-large false a c p h =
     let g = half-large a c p (omega arith) in
     rw (lt-leb (half_up a c) 0x7fff (omega arith))

@@ -1,160 +1,111 @@
 // Numbers written in decimal, read out of bytes.
 #![tactic(auto)]
 
-ghost use Rattle.std.specs.Prelude.{◌≡◌, true, ◌^◌, ◌≤◌, ◌<◌, length};
-ghost use Rattle.numeral.specs.Decimal.{Small, is_digit, takes, with_digit, after_digits, after_point, with_byte, numeral_of, value_of, decimal_of, small_of, short_of};
+ghost use Rattle.std.specs.Prelude.{◌≡◌, ◌^◌, ◌≤◌, ◌<◌, Some, None, OnSome, length};
+ghost use Rattle.words.specs.Choice.{pick};
+ghost use Rattle.numeral.specs.Decimal.{Small, takes, with_digit, after_digits, after_point, with_byte, numeral_of, value_of, decimal_of, small_of, short_of};
 
-// What the bytes read so far are.
+// What the bytes read so far are: the beginning of a number.
 #[derive(Clone, Copy)]
 enum Numeral {
     // the digits as one whole number, and how many they are
     Digits(u64, u8),
     // behind a point: the same of all digits, and how many of them follow the point
     Parts(u64, u8, u8),
-    // no beginning of a number
-    Neither,
 }
 
-// A number of at most fifteen digits.
-#[derive(Clone, Copy)]
-pub enum Decimal {
-    Value(f64),
-    // no such number
-    Nothing,
-}
-
-// A whole number of one or two digits.
-#[derive(Clone, Copy)]
-pub enum Short {
-    Whole(u8),
-    // no such number
-    Other,
-}
-
-// The f64 that is nearest to the number that the text is.
-pub fn decimal_of(text: &[u8]) -> Decimal
+// The f64 that is nearest to the number that the text is, if it is one of at most fifteen digits.
+#[tactic(auto, using(crate::proofs::NumeralLaws::small_read), unfolding(crate::specs::Decimal::decimal_of))]
+pub fn decimal_of(text: &[u8]) -> Option<f64>
     ensures { result ≡ decimal_of text.now }
 {
-    value_of(scan(text))
+    value_of(scan(text)?)
 }
 
-// The number that the text is, if it is a short one.
-pub fn short_of(text: &[u8]) -> Short
+// The number that the text is, if it is a whole one of one or two digits.
+#[tactic(auto, using(crate::proofs::NumeralLaws::small_read), unfolding(crate::specs::Decimal::short_of))]
+pub fn short_of(text: &[u8]) -> Option<u8>
     ensures { result ≡ short_of text.now }
 {
-    small_of(scan(text))
+    small_of(scan(text)?)
 }
 
-fn scan(text: &[u8]) -> Numeral
+#[tactic(auto, unfolding(crate::specs::Decimal::numeral_of))]
+fn scan(text: &[u8]) -> Option<Numeral>
     ensures { result ≡ numeral_of (length text.now) text.now }
 {
     let mut n = Numeral::Digits(0, 0);
-    for i in 0..text.len() {
-        n = with_byte(n, text[i]);
+    for b in text {
+        n = with_byte(n, *b)?;
     }
-    n
+    Some(n)
 }
 
-fn with_byte(n: Numeral, b: u8) -> Numeral
+#[tactic(auto, unfolding(crate::specs::Decimal::with_byte))]
+fn with_byte(n: Numeral, b: u8) -> Option<Numeral>
     requires { Small n }
     ensures { result ≡ with_byte n b }
 {
     match n {
         Numeral::Digits(whole, count) => after_digits(whole, count, b),
         Numeral::Parts(whole, count, places) => after_point(whole, count, places, b),
-        Numeral::Neither => Numeral::Neither,
     }
 }
 
-fn after_digits(whole: u64, count: u8, b: u8) -> Numeral
+#[tactic(auto, unfolding(crate::specs::Decimal::after_digits))]
+fn after_digits(whole: u64, count: u8, b: u8) -> Option<Numeral>
     requires { whole < 10 ^ count }
     ensures { result ≡ after_digits whole count b }
 {
     if b == b'.' {
-        if 1 <= count {
-            return Numeral::Parts(whole, count, 0);
-        }
-        return Numeral::Neither;
+        return (1 <= count).then_some(Numeral::Parts(whole, count, 0));
     }
-    if !takes(count, b) {
-        return Numeral::Neither;
-    }
-    Numeral::Digits(with_digit(whole, b), count + 1)
+    Some(Numeral::Digits(with_digit(whole, count, b)?, count + 1))
 }
 
-fn after_point(whole: u64, count: u8, places: u8, b: u8) -> Numeral
+#[tactic(auto, unfolding(crate::specs::Decimal::after_point))]
+fn after_point(whole: u64, count: u8, places: u8, b: u8) -> Option<Numeral>
     requires whole_bound { whole < 10 ^ count }
     requires places_le_count { places ≤ count }
     ensures { result ≡ after_point whole count places b }
 {
-    if !takes(count, b) {
-        return Numeral::Neither;
-    }
-    Numeral::Parts(with_digit(whole, b), count + 1, places + 1)
+    Some(Numeral::Parts(with_digit(whole, count, b)?, count + 1, places + 1))
 }
 
-// Whether one more byte is one more digit. Fifteen and no more, so that the whole number is exact in an f64.
-fn takes(count: u8, b: u8) -> bool
-    ensures { result ≡ takes count b }
+// The digits with one more, if the byte is one. Fifteen and no more, so that the whole number is exact in an f64.
+#[tactic(auto, unfolding(crate::specs::Decimal::is_digit, crate::specs::Decimal::takes, crate::specs::Decimal::with_digit))]
+fn with_digit(whole: u64, count: u8, b: u8) -> Option<u64>
+    requires { whole < 10 ^ count }
+    ensures value { result ≡ pick (takes count b) (Some (with_digit whole b)) None }
+    ensures room { OnSome result (count < 15) }
 {
-    (b'0' <= b) & (b <= b'9') & (count < 15)
-}
-
-fn with_digit(whole: u64, b: u8) -> u64
-    requires whole_bound { whole < 10 ^ 14 }
-    requires b_value { is_digit b ≡ true }
-    ensures { result ≡ with_digit whole b }
-{
-    whole * 10 + (b - b'0') as u64
+    (b.is_ascii_digit() && count < 15).then(|| whole * 10 + (b - b'0') as u64)
 }
 
 // Both operands of the division are exact, so the value is rounded once.
-fn value_of(n: Numeral) -> Decimal
+#[tactic(auto, unfolding(crate::specs::Decimal::value_of))]
+fn value_of(n: Numeral) -> Option<f64>
     requires { Small n }
     ensures { result ≡ value_of n }
 {
     match n {
-        Numeral::Digits(whole, digits) => {
-            if 1 <= digits {
-                return Decimal::Value(whole as f64);
-            }
-            Decimal::Nothing
+        Numeral::Digits(whole, digits) if 1 <= digits => Some(whole as f64),
+        Numeral::Parts(whole, _, places) if 1 <= places => {
+            let above = whole as f64;
+            let below = 10u64.pow(places as u32) as f64;
+            Some(above / below)
         }
-        Numeral::Parts(whole, _, places) => {
-            if 1 <= places {
-                let above = whole as f64;
-                let below = power(places) as f64;
-                return Decimal::Value(above / below);
-            }
-            Decimal::Nothing
-        }
-        Numeral::Neither => Decimal::Nothing,
+        _ => None,
     }
 }
 
-fn power(places: u8) -> u64
-    requires { places ≤ 15 }
-    ensures { result ≡ 10 ^ places }
-{
-    let mut p: u64 = 1;
-    for k in 0..places {
-        p = p * 10;
-    }
-    p
-}
-
-fn small_of(n: Numeral) -> Short
+#[tactic(auto, unfolding(crate::specs::Decimal::small_of))]
+fn small_of(n: Numeral) -> Option<u8>
     requires { Small n }
     ensures { result ≡ small_of n }
 {
     match n {
-        Numeral::Digits(whole, count) => {
-            if (1 <= count) & (count <= 2) {
-                return Short::Whole(whole as u8);
-            }
-            Short::Other
-        }
-        Numeral::Parts(_, _, _) => Short::Other,
-        Numeral::Neither => Short::Other,
+        Numeral::Digits(whole, 1..=2) => Some(whole as u8),
+        _ => None,
     }
 }

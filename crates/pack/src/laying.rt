@@ -2,12 +2,12 @@
 ghost use Rattle.std.specs.Prelude.{◌≡◌, ◌+◌, ◌<◌, ◌≤◌, length};
 ghost use Rattle.pack.specs.Packing.{tabulate, row_laid, latches_laid, latches_in};
 
-use crate::{layout, rows};
+use crate::{Words, layout};
 use unit::Latches;
 
 // The four words of channel i.
-fn lay_latches(x: Latches, s: &mut [u16], i: usize)
-    requires { (length s.old ≡ 211) × (i < 16) }
+fn lay_latches(x: Latches, s: &mut Words, i: usize)
+    requires { i < 16 }
     ensures { s.new ≡ latches_laid s.old i x }
 {
     s[layout::FLAGS + i] = x.flags;
@@ -16,9 +16,8 @@ fn lay_latches(x: Latches, s: &mut [u16], i: usize)
     s[layout::SET_TIMES + i] = x.set;
 }
 
-pub fn lay_channels(channels: [Latches; 16], s: &mut [u16])
-    requires { length s.old ≡ 211 }
-    ensures { (length s.new ≡ 211) × (tabulate 16 (latches_in s.new) ≡ channels) }
+pub fn lay_channels(channels: [Latches; 16], s: &mut Words)
+    ensures { tabulate 16 (latches_in s.new) ≡ channels }
 {
     for i in 0..16 {
         lay_latches(channels[i], s, i);
@@ -26,9 +25,9 @@ pub fn lay_channels(channels: [Latches; 16], s: &mut [u16])
 }
 
 // A row from word `at` on.
-pub fn lay_row(row: &[u16], s: &mut [u16], at: usize)
+pub fn lay_row(row: &[u16], s: &mut Words, at: usize)
     requires { at + length row.now ≤ length s.old }
     ensures { s.new ≡ row_laid s.old at row.now }
 {
-    rows::copy(row, &mut s[at..at + row.len()]);
+    s[at..at + row.len()].copy_from_slice(row);
 }

@@ -1,13 +1,40 @@
 // The state out of 211 words.
-ghost use Rattle.std.specs.Prelude.{◌≡◌, ◌<◌, length};
-ghost use Rattle.pack.specs.Packing.{tabulate, latches_in, slots_in};
+ghost use Rattle.std.specs.Prelude.{◌≡◌, ◌<◌};
+ghost use Rattle.pack.specs.Packing.{tabulate, latches_in, state_in};
 
-use crate::layout;
+use crate::{Words, layout};
 use slots::Slots;
 use unit::Latches;
+use words::Timers;
 
-fn latches_in(s: &[u16], i: usize) -> Latches
-    requires { (length s.now ≡ 211) × (i < 16) }
+pub fn timers(s: &Words) -> Timers
+    ensures { result ≡ (state_in s.now).timers }
+{
+    Timers {
+        tcr1: s[layout::TCR1],
+        tcr2: s[layout::TCR2],
+    }
+}
+
+pub fn pins(s: &Words) -> u16
+    ensures { result ≡ (state_in s.now).pins }
+{
+    s[layout::PINS]
+}
+
+pub fn slots(s: &Words) -> Slots
+    ensures { result ≡ (state_in s.now).slots }
+{
+    Slots {
+        slot: s[layout::SLOTS],
+        high: s[layout::SLOTS + 1],
+        middle: s[layout::SLOTS + 2],
+        low: s[layout::SLOTS + 3],
+    }
+}
+
+fn latches_in(s: &Words, i: usize) -> Latches
+    requires { i < 16 }
     ensures { result ≡ latches_in s.now i }
 {
     Latches {
@@ -18,8 +45,7 @@ fn latches_in(s: &[u16], i: usize) -> Latches
     }
 }
 
-pub fn channels_in(s: &[u16]) -> [Latches; 16]
-    requires { length s.now ≡ 211 }
+pub fn channels_in(s: &Words) -> [Latches; 16]
     ensures { result ≡ tabulate 16 (latches_in s.now) }
 {
     let mut w = [Latches::NONE; 16];
@@ -27,16 +53,4 @@ pub fn channels_in(s: &[u16]) -> [Latches; 16]
         w[i] = latches_in(s, i);
     }
     w
-}
-
-pub fn slots_in(s: &[u16]) -> Slots
-    requires { length s.now ≡ 211 }
-    ensures { result ≡ slots_in s.now }
-{
-    Slots {
-        slot: s[layout::SLOTS],
-        high: s[layout::SLOTS + 1],
-        middle: s[layout::SLOTS + 2],
-        low: s[layout::SLOTS + 3],
-    }
 }

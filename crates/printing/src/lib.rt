@@ -1,64 +1,68 @@
-// Numbers put into a lent buffer of any length, as `text` puts bytes.
+// Numbers put on a page.
 #![tactic(auto)]
 
 ghost use Rattle.std.specs.Prelude.{◌≡◌, [], ◌∷◌, ◌<◌};
 ghost use Rattle.text.specs.Placing.{Wrote};
 ghost use Rattle.text.specs.Printing.{digit_byte, hex_word, digits, decimal, number_line};
 
+use text::Page;
+
 // At most twenty digits, with no zero in front.
-pub fn decimal(out: &mut [u8], at: usize, n: u64) -> usize
-    ensures { Wrote out.old at (decimal n) result out.new }
+#[tactic(auto, unfolding(text::specs::Printing::decimal))]
+pub fn decimal(page: &mut Page, n: u64)
+    ensures { Wrote page.old (decimal n) page.new }
 {
-    digits(out, at, n, 19)
+    digits(page, n, 19);
 }
 
 // A line of a letter and a number.
-pub fn number_line(out: &mut [u8], at: usize, letter: u8, n: u64) -> usize
-    ensures { Wrote out.old at (number_line letter n) result out.new }
+pub fn number_line(page: &mut Page, letter: u8, n: u64)
+    ensures { Wrote page.old (number_line letter n) page.new }
 {
-    let a = text::pair(out, at, letter, b' ');
-    let b = decimal(out, a, n);
-    text::put(out, b, b'\n')
+    page.pair(letter, b' ');
+    decimal(page, n);
+    page.put(b'\n');
 }
 
-fn digits(out: &mut [u8], at: usize, n: u64, more: u8) -> usize
-    ensures { Wrote out.old at (digits more n) result out.new }
+fn digits(page: &mut Page, n: u64, more: u8)
+    ensures { Wrote page.old (digits more n) page.new }
 {
     if more == 0 {
-        return digit(out, at, n % 10);
+        digit(page, n % 10);
+    } else if n < 10 {
+        digit(page, n);
+    } else {
+        digits(page, n / 10, more - 1);
+        digit(page, n % 10);
     }
-    if n < 10 {
-        return digit(out, at, n);
-    }
-    let a = digits(out, at, n / 10, more - 1);
-    digit(out, a, n % 10)
 }
 
 // Four hexadecimal digits.
-pub fn word(out: &mut [u8], at: usize, w: u16) -> usize
-    ensures { Wrote out.old at (hex_word w) result out.new }
+pub fn word(page: &mut Page, w: u16)
+    ensures { Wrote page.old (hex_word w) page.new }
 {
-    let n = w as u64;
-    let a = digit(out, at, n / 4096);
-    let b = digit(out, a, n / 256 % 16);
-    let c = digit(out, b, n / 16 % 16);
-    digit(out, c, n % 16)
+    let n = u64::from(w);
+    digit(page, n / 4096);
+    digit(page, n / 256 % 16);
+    digit(page, n / 16 % 16);
+    digit(page, n % 16);
 }
 
-fn digit(out: &mut [u8], at: usize, d: u64) -> usize
+fn digit(page: &mut Page, d: u64)
     requires { d < 16 }
-    ensures { Wrote out.old at (digit_byte d ∷ []) result out.new }
+    ensures { Wrote page.old (digit_byte d ∷ []) page.new }
 {
-    text::put(out, at, digit_byte(d))
+    page.put(digit_byte(d));
 }
 
+#[tactic(auto, using(words::proofs::ChoiceLaws::cases), unfolding(text::specs::Printing::digit_byte))]
 fn digit_byte(d: u64) -> u8
     requires { d < 16 }
     ensures { result ≡ digit_byte d }
 {
     if d < 10 {
-        48 + (d as u8)
+        b'0' + d as u8
     } else {
-        55 + (d as u8)
+        b'A' + (d as u8 - 10)
     }
 }

@@ -8,18 +8,16 @@ use lib.Ieee.{Float}
 use Rattle.words.specs.Choice.{pick}
 use Rattle.motor.specs.Stepping.{period}
 use Rattle.unit.specs.Gate.{ramp_good}
-use Rattle.nearest.specs.declared.Count.TheVariants.{Whole}
+use Rattle.std.specs.Prelude.{Some, Ok, Err}
 use Rattle.sheet.specs.Numbers.{period_count, speed_count}
 use Rattle.sheet.proofs.NumberLaws.{takes}
 use Rattle.sheet.proofs.Order.{faster}
 use Rattle.ramp.specs.declared.Ramp.{Ramp}
 use Rattle.ramp.specs.declared.Ramp.TheVariants.{Periods, Speeds}
-use Rattle.ramp.specs.declared.Counts.{Counts}
-use Rattle.ramp.specs.declared.Counts.TheVariants.{Taken, Refused}
-use Rattle.ramp.specs.Sheet.{number_of, cntl0_of, cntl1_of, counts_of}
+use Rattle.ramp.specs.Sheet.{Answer, taken_with, refused, number_of, cntl0_of, cntl1_of, counts_of}
 use Rattle.ramp.specs.Claims.{WordsRun, MayRun, Runs, Ramps}
 use Rattle.ramp.proofs.CountLaws.{question-8}
-use Rattle.ramp.proofs.TakenLaws.{Fine, not-refused, counts-fine, ramp-takes}
+use Rattle.ramp.proofs.TakenLaws.{Fine, counts-fine, ramp-takes}
 
 -- ---- how a ramp that may run does run
 
@@ -43,10 +41,10 @@ near p q n cntl0 cntl1 o h a b w =
 runs : (ramp : Ramp) (tick : Float) (n cntl0 cntl1 : ℕ) → MayRun ramp tick n cntl0 cntl1 → Runs ramp tick n cntl0 cntl1
 unfolding period_count speed_count
 runs (Periods slow difference) tick n cntl0 cntl1 r =
-    record { slowest = r.slowest.0 ∙ ap Whole (first-period n r.p cntl0 cntl1 r.words); step = r.step.0 }
+    record { slowest = r.slowest.0 ∙ ap Some (first-period n r.p cntl0 cntl1 r.words); step = r.step.0 }
 runs (Speeds slow fast) tick n cntl0 cntl1 r =
     record {
-      slowest = r.slowest.0 ∙ ap Whole (first-period n r.p cntl0 cntl1 r.words);
+      slowest = r.slowest.0 ∙ ap Some (first-period n r.p cntl0 cntl1 r.words);
       one-rate = r.one-rate;
       last = r.q;
       fastest = r.fastest.0;
@@ -68,42 +66,41 @@ asks-8 (Speeds slow fast) tick n cntl0 cntl1 r = (question-8 cntl0 cntl1 n).1 (r
 -- ---- the answer in numbers
 
 -- without words question 8 says no
-no_words : (n : ℕ) → ramp_good 0 0 n ≡ false
+pub no_words : (n : ℕ) → ramp_good 0 0 n ≡ false
 unfolding ramp_good period
 no_words n = rw (zero-mul (1 + n))
 
-in-numbers : (x : Counts) (n : ℕ) → ((cntl0 cntl1 : ℕ) → x ≡ Taken cntl0 cntl1 → ramp_good cntl0 cntl1 n ≡ true) → ((k : ℕ) → x ≡ Refused k → k ≡ 11) → number_of x ≡ pick (ramp_good (cntl0_of x) (cntl1_of x) n) 0 11
-in-numbers (Taken cntl0 cntl1) n f g = rw (f cntl0 cntl1 refl)
-in-numbers (Refused k) n f g = rw (g k refl, no_words n)
+in-numbers : (x : Answer) (n : ℕ) → ((cntl0 cntl1 : ℕ) → x ≡ taken_with cntl0 cntl1 → ramp_good cntl0 cntl1 n ≡ true) → number_of x ≡ pick (ramp_good (cntl0_of x) (cntl1_of x) n) 0 11
+in-numbers (Ok controls) n f = rw (f controls.step_cntl0 controls.step_cntl1 refl)
+in-numbers (Err refusal) n f = rw (no_words n)
 
--- what the call answers, and its number
-pub answered : (x : Counts) (ramp : Ramp) (tick : Float) (n : ℕ) → x ≡ counts_of ramp tick n → (x ≡ counts_of ramp tick n) × (number_of x ≡ pick (ramp_good (cntl0_of x) (cntl1_of x) n) 0 11)
+-- the number of what the call answers
+pub answered : (x : Answer) (ramp : Ramp) (tick : Float) (n : ℕ) → x ≡ counts_of ramp tick n → number_of x ≡ pick (ramp_good (cntl0_of x) (cntl1_of x) n) 0 11
 answered x ramp tick n e =
-    let f = counts-fine ramp tick n in
-    (e, in-numbers x n (λ cntl0 cntl1 h. asks-8 ramp tick n cntl0 cntl1 (f.taken cntl0 cntl1 (sym e ∙ h))) (λ k h. f.eleven k (sym e ∙ h)))
+    in-numbers x n (λ cntl0 cntl1 h. asks-8 ramp tick n cntl0 cntl1 ((counts-fine ramp tick n).taken cntl0 cntl1 (sym e ∙ h)))
 
 -- ---- the claim
 
-refused-else : (x : Counts) → ((cntl0 cntl1 : ℕ) → x ≡ Taken cntl0 cntl1 → ⊥) → ((k : ℕ) → x ≡ Refused k → k ≡ 11) → x ≡ Refused 11
-refused-else (Taken cntl0 cntl1) f g = absurd (f cntl0 cntl1 refl)
-refused-else (Refused k) f g = rw (g k refl)
+refused-else : (x : Answer) → ((cntl0 cntl1 : ℕ) → x ≡ taken_with cntl0 cntl1 → ⊥) → x ≡ refused
+refused-else (Ok controls) f = absurd (f controls.step_cntl0 controls.step_cntl1 refl)
+refused-else (Err refusal) f = refl
 
 module _ (ramp : Ramp) (tick : Float) (n : ℕ) where
   fine : Fine (MayRun ramp tick n) (counts_of ramp tick n)
   fine = counts-fine ramp tick n
 
-  none : counts_of ramp tick n ≡ Refused 11 → (cntl0 cntl1 : ℕ) → MayRun ramp tick n cntl0 cntl1 → ⊥
-  none e cntl0 cntl1 r = not-refused cntl0 cntl1 11 (sym (ramp-takes ramp tick n cntl0 cntl1 r) ∙ e)
+  none : counts_of ramp tick n ≡ refused → (cntl0 cntl1 : ℕ) → MayRun ramp tick n cntl0 cntl1 → ⊥
+  none e cntl0 cntl1 r = cc (ramp-takes ramp tick n cntl0 cntl1 r)
 
-  refuses : ((cntl0 cntl1 : ℕ) → MayRun ramp tick n cntl0 cntl1 → ⊥) → counts_of ramp tick n ≡ Refused 11
-  refuses f = refused-else (counts_of ramp tick n) (λ cntl0 cntl1 e. f cntl0 cntl1 (fine.taken cntl0 cntl1 e)) fine.eleven
+  refuses : ((cntl0 cntl1 : ℕ) → MayRun ramp tick n cntl0 cntl1 → ⊥) → counts_of ramp tick n ≡ refused
+  refuses f = refused-else (counts_of ramp tick n) (λ cntl0 cntl1 e. f cntl0 cntl1 (fine.taken cntl0 cntl1 e))
 
 pub ramps : Ramps
 ramps =
     record {
       taken = λ ramp tick n cntl0 cntl1. ((fine ramp tick n).taken cntl0 cntl1, ramp-takes ramp tick n cntl0 cntl1);
       refused = λ ramp tick n. (none ramp tick n, refuses ramp tick n);
-      eleven = λ ramp tick n. (fine ramp tick n).eleven;
+      eleven = λ ramp tick n refusal e. refl;
       runs = λ ramp tick n cntl0 cntl1 e.
           let r = (fine ramp tick n).taken cntl0 cntl1 e in
           (asks-8 ramp tick n cntl0 cntl1 r, runs ramp tick n cntl0 cntl1 r);

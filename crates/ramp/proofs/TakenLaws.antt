@@ -1,6 +1,6 @@
--- A ramp is taken with two words exactly where it may run with them, and every refusal has the number 11.
+-- A ramp is taken with two words exactly where it may run with them.
 use Prim.Native.Nat.{ℕ, ◌+◌, ◌*◌, ◌≤◌}
-use mathlib.Core.Path.{◌≡◌, refl, sym}
+use mathlib.Core.Path.{◌≡◌, refl, subst}
 use mathlib.Core.Bool.{Bool, true}
 use native.Mathlib.Omega.{arith}
 use borrow.Author.Tests.{leb-true, le-leb}
@@ -9,45 +9,37 @@ use lib.Ieee.{Float}
 use Rattle.words.specs.Choice.{ask}
 use Rattle.words.proofs.ChoiceLaws.{ask-cases}
 use Rattle.unit.specs.Gate.{ramp_good}
-use Rattle.nearest.specs.declared.Count.{Count}
-use Rattle.nearest.specs.declared.Count.TheVariants.{Whole, Outside}
+use Rattle.std.specs.Prelude.{Option, Some, None}
 use Rattle.nearest.proofs.NearestLaws.{nearest-whole}
 use Rattle.sheet.specs.Numbers.{is_rate_count, is_positive, is_difference, is_speedup, period_count, speed_count}
 use Rattle.sheet.proofs.NumberLaws.{takes}
 use Rattle.ramp.specs.declared.Ramp.{Ramp}
 use Rattle.ramp.specs.declared.Ramp.TheVariants.{Periods, Speeds}
-use Rattle.ramp.specs.declared.Counts.{Counts}
-use Rattle.ramp.specs.declared.Counts.TheVariants.{Taken, Refused}
-use Rattle.ramp.specs.Sheet.{refused, slope, words_of, steps_of, ends_of, periods_of, speeds_of, by_kind, counts_of}
+use Rattle.ramp.specs.Sheet.{Answer, taken_with, refused, cntl0_of, cntl1_of, slope, words_of, steps_of, ends_of, periods_of, speeds_of, by_kind, counts_of}
 use Rattle.ramp.specs.Claims.{WordsRun, PeriodsRun, SpeedsRun, MayRun}
 use Rattle.ramp.proofs.CountLaws.{slope-falls, falls-slope, question-8}
 
--- ---- both kinds of answer: the words of a taken ramp have Q, and a refusal is 11
+-- ---- the words of a taken ramp have Q
 
-pub record Fine (Q : ℕ → ℕ → Type 0) (x : Counts) : Type 0 where
-  pub taken : (cntl0 cntl1 : ℕ) → x ≡ Taken cntl0 cntl1 → Q cntl0 cntl1
-  pub eleven : (k : ℕ) → x ≡ Refused k → k ≡ 11
-
--- an answer is not both
-pub not-refused : (cntl0 cntl1 k : ℕ) → Taken cntl0 cntl1 ≡ Refused k → ⊥
-not-refused cntl0 cntl1 k e = let z : ◌≡◌ {A = ℕ} 0 1 = cc in omega arith
+pub record Fine (Q : ℕ → ℕ → Type 0) (x : Answer) : Type 0 where
+  pub taken : (cntl0 cntl1 : ℕ) → x ≡ taken_with cntl0 cntl1 → Q cntl0 cntl1
 
 module _ (Q : ℕ → ℕ → Type 0) where
   refuses : Fine Q refused
-  refuses = record { taken = λ cntl0 cntl1 e. absurd (not-refused cntl0 cntl1 11 (sym e)); eleven = λ k e. cc }
+  refuses = record { taken = λ cntl0 cntl1 e. cc }
 
-  yes : (cntl0 cntl1 : ℕ) → Q cntl0 cntl1 → Fine Q (Taken cntl0 cntl1)
-  yes cntl0 cntl1 h = record { taken = same; eleven = λ k e. absurd (not-refused cntl0 cntl1 k e) }
+  yes : (cntl0 cntl1 : ℕ) → Q cntl0 cntl1 → Fine Q (taken_with cntl0 cntl1)
+  yes cntl0 cntl1 h = record { taken = same }
     where
-      same : (a b : ℕ) → Taken cntl0 cntl1 ≡ Taken a b → Q a b
-      same a b e = let f : cntl0 ≡ a = cc in let g : cntl1 ≡ b = cc in rw (← f, ← g) h
+      same : (a b : ℕ) → taken_with cntl0 cntl1 ≡ taken_with a b → Q a b
+      same a b e = subst (λ (x : Answer). Q (cntl0_of x) (cntl1_of x)) e h
 
-  asked : (q : Bool) (rest : Counts) → (q ≡ true → Fine Q rest) → Fine Q (ask q refused rest)
+  asked : (q : Bool) (rest : Answer) → (q ≡ true → Fine Q rest) → Fine Q (ask q refused rest)
   asked q rest f = ask-cases (Fine Q) q refused rest refuses f
 
 -- a weaker fact of the same answer
-weaker : (Q R : ℕ → ℕ → Type 0) (x : Counts) → ((cntl0 cntl1 : ℕ) → Q cntl0 cntl1 → R cntl0 cntl1) → Fine Q x → Fine R x
-weaker Q R x f h = record { taken = λ cntl0 cntl1 e. f cntl0 cntl1 (h.taken cntl0 cntl1 e); eleven = h.eleven }
+weaker : (Q R : ℕ → ℕ → Type 0) (x : Answer) → ((cntl0 cntl1 : ℕ) → Q cntl0 cntl1 → R cntl0 cntl1) → Fine Q x → Fine R x
+weaker Q R x f h = record { taken = λ cntl0 cntl1 e. f cntl0 cntl1 (h.taken cntl0 cntl1 e) }
 
 -- ---- from the answer to the ramp: the counts first
 
@@ -71,37 +63,37 @@ module _ (n : ℕ) (rates : (1 ≤ n) × (n ≤ 14)) where
       Q = Words p d
 
   -- by the counts of the slowest period and of the difference
-  pub record FromSteps (first difference : Count) (cntl0 cntl1 : ℕ) : Type 0 where
+  pub record FromSteps (first difference : Option ℕ) (cntl0 cntl1 : ℕ) : Type 0 where
     pub p : ℕ
-    pub slowest : (first ≡ Whole p) × (1 ≤ p)
-    pub step : difference ≡ Whole cntl0
+    pub slowest : (first ≡ Some p) × (1 ≤ p)
+    pub step : difference ≡ Some cntl0
     pub words : WordsRun n p cntl0 cntl1
 
-  steps-fine : (first difference : Count) → Fine (FromSteps first difference) (steps_of first difference n)
+  steps-fine : (first difference : Option ℕ) → Fine (FromSteps first difference) (steps_of first difference n)
   unfolding steps_of
-  steps-fine Outside difference = refuses (FromSteps Outside difference)
-  steps-fine (Whole p) Outside = refuses (FromSteps (Whole p) Outside)
-  steps-fine (Whole p) (Whole d) =
-      asked (FromSteps (Whole p) (Whole d)) (leb 1 p) (words_of p d n)
-      (λ l. weaker (Words p d) (FromSteps (Whole p) (Whole d)) (words_of p d n)
+  steps-fine None difference = refuses (FromSteps None difference)
+  steps-fine (Some p) None = refuses (FromSteps (Some p) None)
+  steps-fine (Some p) (Some d) =
+      asked (FromSteps (Some p) (Some d)) (leb 1 p) (words_of p d n)
+      (λ l. weaker (Words p d) (FromSteps (Some p) (Some d)) (words_of p d n)
       (λ cntl0 cntl1 w. record { p = p; slowest = (refl, leb-true 1 p l); step = rw w.0; words = w.1 }) (words-fine p d))
 
   -- by the counts of the two periods
-  pub record FromEnds (first last : Count) (cntl0 cntl1 : ℕ) : Type 0 where
+  pub record FromEnds (first last : Option ℕ) (cntl0 cntl1 : ℕ) : Type 0 where
     pub p : ℕ
     pub q : ℕ
-    pub slowest : (first ≡ Whole p) × (1 ≤ p)
-    pub fastest : (last ≡ Whole q) × (1 ≤ q)
+    pub slowest : (first ≡ Some p) × (1 ≤ p)
+    pub fastest : (last ≡ Some q) × (1 ≤ q)
     pub step : slope p q n ≡ cntl0
     pub words : WordsRun n p cntl0 cntl1
 
-  ends-fine : (first last : Count) → Fine (FromEnds first last) (ends_of first last n)
+  ends-fine : (first last : Option ℕ) → Fine (FromEnds first last) (ends_of first last n)
   unfolding ends_of
-  ends-fine Outside last = refuses (FromEnds Outside last)
-  ends-fine (Whole p) Outside = refuses (FromEnds (Whole p) Outside)
-  ends-fine (Whole p) (Whole q) =
+  ends-fine None last = refuses (FromEnds None last)
+  ends-fine (Some p) None = refuses (FromEnds (Some p) None)
+  ends-fine (Some p) (Some q) =
       let c = slope p q n in
-      let Q = FromEnds (Whole p) (Whole q) in
+      let Q = FromEnds (Some p) (Some q) in
       asked Q (leb 1 p) _
       (λ l. asked Q (leb 1 q) (words_of p c n)
       (λ g. weaker (Words p c) Q (words_of p c n)
@@ -165,12 +157,12 @@ counts-fine ramp tick n =
 
 -- ---- from the ramp to the answer
 
-words_take : (n p cntl0 cntl1 : ℕ) → WordsRun n p cntl0 cntl1 → words_of p cntl0 n ≡ Taken cntl0 cntl1
+words_take : (n p cntl0 cntl1 : ℕ) → WordsRun n p cntl0 cntl1 → words_of p cntl0 n ≡ taken_with cntl0 cntl1
 unfolding words_of ask
 words_take n p cntl0 cntl1 w =
     rw (← w.sum, le-leb cntl1 0xffff w.word, (question-8 cntl0 cntl1 n).1 (w.last, w.first))
 
-pub ramp-takes : (ramp : Ramp) (tick : Float) (n cntl0 cntl1 : ℕ) → MayRun ramp tick n cntl0 cntl1 → counts_of ramp tick n ≡ Taken cntl0 cntl1
+pub ramp-takes : (ramp : Ramp) (tick : Float) (n cntl0 cntl1 : ℕ) → MayRun ramp tick n cntl0 cntl1 → counts_of ramp tick n ≡ taken_with cntl0 cntl1
 unfolding counts_of periods_of speeds_of steps_of ends_of period_count speed_count ask
 ramp-takes (Periods slow difference) tick n cntl0 cntl1 r =
     let i = (takes.rates n).1 r.words.rates in

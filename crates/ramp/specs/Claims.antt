@@ -1,19 +1,18 @@
--- Which ramps are taken, with which words, and how those run. Paper 02, #101.
-use Rattle.std.specs.Prelude.{ℕ, ◌+◌, ◌-◌, ◌*◌, ◌≤◌, ◌<◌, ◌≡◌, ◌↔◌, true, false, Float}
+-- Which ramps are taken, with which words, and how those run.
+use Rattle.std.specs.Prelude.{ℕ, ◌+◌, ◌-◌, ◌*◌, ◌≤◌, ◌<◌, ◌≡◌, ◌↔◌, true, false, Some, Err, Float}
 use Rattle.std.specs.Float.{binary64}
 use Rattle.std.specs.Float.Ieee.{lt, div}
 use Rattle.motor.specs.Stepping.{period}
 use Rattle.unit.specs.Gate.{ramp_good}
 use Rattle.nearest.specs.Counting.{count_of}
-use Rattle.nearest.specs.declared.Count.TheVariants.{Whole}
 use Rattle.sheet.specs.Numbers.{thousand, period_count, speed_count}
 use Rattle.sheet.specs.Claims.{AboveZero, NotBelowZero}
 use Rattle.ramp.specs.declared.Ramp.{Ramp}
 use Rattle.ramp.specs.declared.Ramp.TheVariants.{Periods, Speeds}
-use Rattle.ramp.specs.declared.Counts.TheVariants.{Taken, Refused}
-use Rattle.ramp.specs.Sheet.{counts_of}
+use Rattle.ramp.specs.declared.CannotRun.{CannotRun}
+use Rattle.ramp.specs.Sheet.{taken_with, refused, refusal_number, counts_of}
 
--- ---- which are taken: what is left by the list of refusals of paper 02, #101, as numbers
+-- ---- which are taken: what the refusals leave, as numbers
 
 -- N, and the words that P(1) and STEP_CNTL0 make
 pub record WordsRun (n p cntl0 cntl1 : ℕ) : Type 0 where
@@ -26,7 +25,7 @@ pub record WordsRun (n p cntl0 cntl1 : ℕ) : Type 0 where
 
 -- a count of a period: the quotient's nearest whole number (claim `Nearest`), from 1 to $7FFF
 abbrev pub IsPeriod : Float → ℕ → Type 0
-IsPeriod quotient p = (count_of quotient ≡ Whole p) × (1 ≤ p) × (p ≤ 0x7fff)
+IsPeriod quotient p = (count_of quotient ≡ Some p) × (1 ≤ p) × (p ≤ 0x7fff)
 
 -- periods: the slowest, the difference between neighbours
 pub record PeriodsRun (slow difference tick : Float) (n cntl0 cntl1 : ℕ) : Type 0 where
@@ -35,7 +34,7 @@ pub record PeriodsRun (slow difference tick : Float) (n cntl0 cntl1 : ℕ) : Typ
   pub tick-above : AboveZero tick
   pub p : ℕ
   pub slowest : IsPeriod (div binary64 slow tick) p
-  pub step : (count_of (div binary64 difference tick) ≡ Whole cntl0) × (cntl0 ≤ 0x7fff)
+  pub step : (count_of (div binary64 difference tick) ≡ Some cntl0) × (cntl0 ≤ 0x7fff)
   pub words : WordsRun n p cntl0 cntl1
 
 -- speeds: the slowest, the fastest. STEP_CNTL0 is the whole number nearest to (p - q) / (n - 1), halves upward; p - q does not go below 0
@@ -62,16 +61,16 @@ MayRun (Speeds slow fast) tick n cntl0 cntl1 = SpeedsRun slow fast tick n cntl0 
 
 -- periods: P(1) is the slowest's count, and from rate to rate it falls by the difference's
 pub record Steady (slow difference tick : Float) (cntl0 cntl1 : ℕ) : Type 0 where
-  pub slowest : period_count slow tick ≡ Whole (period cntl0 cntl1 1)
-  pub step : period_count difference tick ≡ Whole cntl0
+  pub slowest : period_count slow tick ≡ Some (period cntl0 cntl1 1)
+  pub step : period_count difference tick ≡ Some cntl0
 
 -- speeds: P(1) is the slowest's count, and with N = 1 nothing falls. From N = 2 on, P(N) is the fastest's to within (N - 1) / 2: that
 -- much can come of rounding STEP_CNTL0
 pub record Between (slow fast tick : Float) (n cntl0 cntl1 : ℕ) : Type 0 where
-  pub slowest : speed_count slow tick ≡ Whole (period cntl0 cntl1 1)
+  pub slowest : speed_count slow tick ≡ Some (period cntl0 cntl1 1)
   pub one-rate : n ≡ 1 → cntl0 ≡ 0
   pub last : ℕ
-  pub fastest : speed_count fast tick ≡ Whole last
+  pub fastest : speed_count fast tick ≡ Some last
   pub near : 2 ≤ n → (2 * last ≤ 2 * period cntl0 cntl1 n + (n - 1)) × (2 * period cntl0 cntl1 n ≤ 2 * last + (n - 1))
 
 abbrev pub Runs : Ramp → Float → ℕ → ℕ → ℕ → Type 0
@@ -82,9 +81,9 @@ Runs (Speeds slow fast) tick n cntl0 cntl1 = Between slow fast tick n cntl0 cntl
 
 pub record Ramps : Type 0 where
   -- taken with two words exactly where it may run with them
-  pub taken : (ramp : Ramp) (tick : Float) (n cntl0 cntl1 : ℕ) → counts_of ramp tick n ≡ Taken cntl0 cntl1 ↔ MayRun ramp tick n cntl0 cntl1
-  -- refused with 11 exactly where there are no such words, and with no other number
-  pub refused : (ramp : Ramp) (tick : Float) (n : ℕ) → counts_of ramp tick n ≡ Refused 11 ↔ ((cntl0 cntl1 : ℕ) → MayRun ramp tick n cntl0 cntl1 → ⊥)
-  pub eleven : (ramp : Ramp) (tick : Float) (n number : ℕ) → counts_of ramp tick n ≡ Refused number → number ≡ 11
+  pub taken : (ramp : Ramp) (tick : Float) (n cntl0 cntl1 : ℕ) → counts_of ramp tick n ≡ taken_with cntl0 cntl1 ↔ MayRun ramp tick n cntl0 cntl1
+  -- refused exactly where there are no such words, and with the number 11
+  pub refused : (ramp : Ramp) (tick : Float) (n : ℕ) → counts_of ramp tick n ≡ refused ↔ ((cntl0 cntl1 : ℕ) → MayRun ramp tick n cntl0 cntl1 → ⊥)
+  pub eleven : (ramp : Ramp) (tick : Float) (n : ℕ) (refusal : CannotRun) → counts_of ramp tick n ≡ Err refusal → refusal_number refusal ≡ 11
   -- the gate's question 8 takes the words, and this is how they run
-  pub runs : (ramp : Ramp) (tick : Float) (n cntl0 cntl1 : ℕ) → counts_of ramp tick n ≡ Taken cntl0 cntl1 → (ramp_good cntl0 cntl1 n ≡ true) × Runs ramp tick n cntl0 cntl1
+  pub runs : (ramp : Ramp) (tick : Float) (n cntl0 cntl1 : ℕ) → counts_of ramp tick n ≡ taken_with cntl0 cntl1 → (ramp_good cntl0 cntl1 n ≡ true) × Runs ramp tick n cntl0 cntl1

@@ -1,4 +1,4 @@
-// A ramp from the motor maker's sheet, turned into STEP_CNTL0 and STEP_CNTL1. Paper 02, #101.
+// A ramp from the motor maker's sheet, turned into STEP_CNTL0 and STEP_CNTL1.
 #![tactic(auto)]
 
 ghost use Rattle.std.specs.Prelude.{◌≡◌, true};
@@ -7,12 +7,12 @@ ghost use Rattle.words.specs.Choice.{pick};
 ghost use Rattle.unit.specs.Gate.{ramp_good};
 ghost use Rattle.ramp.specs.Sheet.{number_of, cntl0_of, cntl1_of, periods_of, speeds_of, counts_of};
 
-use crate::controls::{ends, steps};
+use crate::counts::{ends, steps};
 
-mod controls;
+mod counts;
 
 // What the sheet gives.
-#[derive(Clone, Copy)]
+#[derive(Clone, Copy, PartialEq, Debug)]
 pub enum Ramp {
     // milliseconds: the slowest period, and the difference between neighbours
     Periods(f64, f64),
@@ -20,25 +20,38 @@ pub enum Ramp {
     Speeds(f64, f64),
 }
 
-// What is answered.
-#[derive(Clone, Copy)]
-pub enum Counts {
-    Taken { step_cntl0: u16, step_cntl1: u16 },
-    Refused(u8),
+// The two words with which the motor runs the ramp.
+#[derive(Clone, Copy, PartialEq, Eq, Debug)]
+pub struct Controls {
+    pub step_cntl0: u16,
+    pub step_cntl1: u16,
 }
 
-// The number of the refusal.
-const REFUSAL: u8 = 11;
+// The refusal of a ramp that no two words run.
+#[derive(Clone, Copy, PartialEq, Eq, Debug)]
+pub struct CannotRun;
 
-// The tick length is in milliseconds, n is STEP_RATE_CNT. The number is 0 where question 8 takes the words that are answered, else 11.
-pub fn from_sheet(ramp: Ramp, tick: f64, n: u8) -> Counts
-    ensures { (result ≡ counts_of ramp tick n) × (number_of result ≡ pick (ramp_good (cntl0_of result) (cntl1_of result) n) 0 11) }
-{
-    if !sheet::is_rate_count(n) {
-        return Counts::Refused(REFUSAL);
+// The number that stands for the refusal in a reply.
+const NUMBER: u8 = 11;
+
+impl CannotRun {
+    ghost use Rattle.ramp.specs.Sheet.{refusal_number};
+
+    pub fn number(self) -> u8
+        ensures { result ≡ refusal_number self }
+    {
+        NUMBER
     }
-    if !sheet::is_positive(tick) {
-        return Counts::Refused(REFUSAL);
+}
+
+// The tick length is in milliseconds, n is STEP_RATE_CNT. The number is 0 where the gate takes the words that are answered, else 11.
+#[tactic(auto, unfolding(crate::specs::Sheet::counts_of, words::specs::Choice::ask))]
+pub fn from_sheet(ramp: Ramp, tick: f64, n: u8) -> Result<Controls, CannotRun>
+    ensures counts { result ≡ counts_of ramp tick n }
+    ensures number { number_of result ≡ pick (ramp_good (cntl0_of result) (cntl1_of result) n) 0 11 }
+{
+    if !sheet::is_rate_count(n) || !sheet::is_positive(tick) {
+        return Err(CannotRun);
     }
     match ramp {
         Ramp::Periods(slow, difference) => periods(slow, difference, tick, n),
@@ -46,14 +59,12 @@ pub fn from_sheet(ramp: Ramp, tick: f64, n: u8) -> Counts
     }
 }
 
-fn periods(slowest: f64, difference: f64, tick: f64, n: u8) -> Counts
+#[tactic(auto, unfolding(crate::specs::Sheet::periods_of, words::specs::Choice::ask))]
+fn periods(slowest: f64, difference: f64, tick: f64, n: u8) -> Result<Controls, CannotRun>
     ensures { result ≡ periods_of slowest difference tick n }
 {
-    if !sheet::is_positive(slowest) {
-        return Counts::Refused(REFUSAL);
-    }
-    if !sheet::is_difference(difference) {
-        return Counts::Refused(REFUSAL);
+    if !sheet::is_positive(slowest) || !sheet::is_difference(difference) {
+        return Err(CannotRun);
     }
     steps(
         sheet::period_count(slowest, tick),
@@ -62,18 +73,13 @@ fn periods(slowest: f64, difference: f64, tick: f64, n: u8) -> Counts
     )
 }
 
-fn speeds(slow: f64, fast: f64, tick: f64, n: u8) -> Counts
+#[tactic(auto, unfolding(crate::specs::Sheet::speeds_of, words::specs::Choice::ask))]
+fn speeds(slow: f64, fast: f64, tick: f64, n: u8) -> Result<Controls, CannotRun>
     requires { is_positive tick ≡ true }
     ensures { result ≡ speeds_of slow fast tick n }
 {
-    if !sheet::is_positive(slow) {
-        return Counts::Refused(REFUSAL);
-    }
-    if !sheet::is_positive(fast) {
-        return Counts::Refused(REFUSAL);
-    }
-    if !sheet::is_speedup(slow, fast) {
-        return Counts::Refused(REFUSAL);
+    if !sheet::is_positive(slow) || !sheet::is_positive(fast) || !sheet::is_speedup(slow, fast) {
+        return Err(CannotRun);
     }
     ends(
         sheet::speed_count(slow, tick),

@@ -10,10 +10,9 @@ use Rattle.ramp.specs.declared.Ramp.{Ramp}
 use Rattle.ramp.specs.declared.Ramp.TheVariants.{Periods, Speeds}
 use Rattle.ramp.specs.Claims.{MayRun}
 use Rattle.ramp.proofs.RampLaws.{ramps}
-use Rattle.ramp.specs.declared.Counts.{Counts}
-use Rattle.ramp.specs.declared.Counts.TheVariants.{Taken, Refused}
+use Rattle.std.specs.Prelude.{Option, Some, None, Ok, Err}
+use Rattle.ramp.specs.Sheet.{Answer, taken_with}
 use Rattle.ramp_lines.specs.declared.line.Request.{Request}
-use Rattle.ramp_lines.specs.declared.line.Request.TheVariants.{Asks, Other}
 use Rattle.ramp_lines.specs.Lines.{request_of}
 use Rattle.ramp_lines.specs.Replying.{periods_to, taken, answer_by, reply_by, reply_to}
 use Rattle.ramp_lines.specs.Claims.{NoneLonger}
@@ -36,18 +35,18 @@ in-range : (ramp : Ramp) (tick : Float) (n cntl0 cntl1 : ℕ) → MayRun ramp ti
 in-range (Periods slow difference) tick n cntl0 cntl1 r = (r.words.rates.1, r.words.word)
 in-range (Speeds slow fast) tick n cntl0 cntl1 r = (r.words.rates.1, r.words.word)
 
-answer-short : (letter n : ℕ) (x : Counts) → ((cntl0 cntl1 : ℕ) → x ≡ Taken cntl0 cntl1 → (n ≤ 14) × (cntl1 ≤ 0xffff)) → length (answer_by letter n x) ≤ 12 + 14 * 6
+answer-short : (letter n : ℕ) (x : Answer) → ((cntl0 cntl1 : ℕ) → x ≡ taken_with cntl0 cntl1 → (n ≤ 14) × (cntl1 ≤ 0xffff)) → length (answer_by letter n x) ≤ 12 + 14 * 6
 unfolding answer_by taken hex_word
-answer-short letter n (Taken cntl0 cntl1) h =
-    let fits = h cntl0 cntl1 refl in
-    simp length-append (omega (arith, fits.0, periods-short n cntl0 cntl1 fits.1))
-answer-short letter n (Refused q) h = rw (number-line 78 q) (omega (arith, decimal-short.1 q))
+answer-short letter n (Ok controls) h =
+    let fits = h controls.step_cntl0 controls.step_cntl1 refl in
+    simp length-append (omega (arith, fits.0, periods-short n controls.step_cntl0 controls.step_cntl1 fits.1))
+answer-short letter n (Err refusal) h = rw (number-line 78 11) (omega (arith, decimal-short.1 11))
 
-request-short : (q : Request) → length (reply_by q) ≤ 12 + 14 * 6
+request-short : (q : Option Request) → length (reply_by q) ≤ 12 + 14 * 6
 unfolding reply_by
-request-short (Asks sheet tick n) =
-    answer-short _ n _ (λ cntl0 cntl1 e. in-range sheet tick n cntl0 cntl1 ((ramps.taken sheet tick n cntl0 cntl1).0 e))
-request-short Other = omega arith
+request-short (Some q) =
+    answer-short _ q.rates _ (λ cntl0 cntl1 e. in-range q.sheet q.tick q.rates cntl0 cntl1 ((ramps.taken q.sheet q.tick q.rates cntl0 cntl1).0 e))
+request-short None = omega arith
 
 pub none-longer : NoneLonger
 unfolding reply_to

@@ -8,17 +8,14 @@ use lib.Dec.{leb, ltb, eqb}
 use lib.ListN.{length, take, drop, get_or, length-drop}
 use lib.Seq.{take-length, take_all, length-take-le}
 use borrow.Author.Tests.{ltb-true, leb-true, leb-false}
+use lib.Ieee.{Float}
 use Rattle.words.specs.Choice.{ask}
 use Rattle.words.proofs.ChoiceLaws.{ask-cases}
-use Rattle.numeral.specs.declared.Decimal.{Decimal}
-use Rattle.numeral.specs.declared.Decimal.TheVariants.{Value as Number, Nothing as NoNumber}
-use Rattle.numeral.specs.declared.Short.{Short}
-use Rattle.numeral.specs.declared.Short.TheVariants.{Whole as Small, Other as NoSmall}
+use Rattle.std.specs.Prelude.{Option, Some, None}
 use Rattle.numeral.specs.Decimal.{decimal_of, short_of}
 use Rattle.numeral.proofs.LengthLaws.{no_longer}
 use Rattle.text.proofs.FindingLaws.{found_from}
 use Rattle.ramp_lines.specs.declared.line.Request.{Request}
-use Rattle.ramp_lines.specs.declared.line.Request.TheVariants.{Other}
 use Rattle.ramp_lines.specs.Lines.{next_space, between, asked_by, request_of}
 use Rattle.ramp_lines.specs.Replying.{reply_by, reply_to}
 use Rattle.ramp_lines.specs.Claims.{CutSame}
@@ -34,20 +31,20 @@ between-length line a e h = length-take-le (e - a) (drop a line) (simp length-dr
 
 -- numerals of these lengths are not all there
 module _ (letter : ℕ) (first second tick last : List ℕ) (long : 51 ≤ length first + length second + length tick + length last) where
-  numerals : (x y t : Decimal) (n : Short) → decimal_of first ≡ x → decimal_of second ≡ y → decimal_of tick ≡ t → short_of last ≡ n → asked_by letter x y t n ≡ Other
+  numerals : (x y t : Option Float) (n : Option ℕ) → decimal_of first ≡ x → decimal_of second ≡ y → decimal_of tick ≡ t → short_of last ≡ n → asked_by letter x y t n ≡ None
   unfolding asked_by
-  numerals NoNumber y t n e f g h = refl
-  numerals (Number x) NoNumber t n e f g h = refl
-  numerals (Number x) (Number y) NoNumber n e f g h = refl
-  numerals (Number x) (Number y) (Number t) NoSmall e f g h = refl
-  numerals (Number x) (Number y) (Number t) (Small n) e f g h =
+  numerals None y t n e f g h = refl
+  numerals (Some x) None t n e f g h = refl
+  numerals (Some x) (Some y) None n e f g h = refl
+  numerals (Some x) (Some y) (Some t) None e f g h = refl
+  numerals (Some x) (Some y) (Some t) (Some n) e f g h =
       let a = no_longer.decimal first x e in
       let b = no_longer.decimal second y f in
       let c = no_longer.decimal tick t g in
       let d = no_longer.short last n h in
       absurd (omega arith)
 
-long-other : (line : List ℕ) → 56 ≤ length line → request_of line ≡ Other
+long-other : (line : List ℕ) → 56 ≤ length line → request_of line ≡ None
 unfolding request_of
 long-other line h =
     passes (leb 2 (length line)) _ (λ _. passes (eqb (get_or line 1 0) 32) _ (λ _. passes (ltb a (length line)) _
@@ -62,11 +59,11 @@ long-other line h =
     c : ℕ
     c = next_space line (b + 1)
 
-    passes : (q : Bool) (rest : Request) → (q ≡ true → rest ≡ Other) → ask q Other rest ≡ Other
-    passes q rest f = ask-cases (λ (r : Request). r ≡ Other) q Other rest refl f
+    passes : (q : Bool) (rest : Option Request) → (q ≡ true → rest ≡ None) → ask q None rest ≡ None
+    passes q rest f = ask-cases (λ (r : Option Request). r ≡ None) q None rest refl f
 
     asks : ltb a (length line) ≡ true → ltb b (length line) ≡ true → ltb c (length line) ≡ true
-        → asked_by (get_or line 0 0) (decimal_of (between line 2 a)) (decimal_of (between line (a + 1) b)) (decimal_of (between line (b + 1) c)) (short_of (drop (c + 1) line)) ≡ Other
+        → asked_by (get_or line 0 0) (decimal_of (between line 2 a)) (decimal_of (between line (a + 1) b)) (decimal_of (between line (b + 1) c)) (short_of (drop (c + 1) line)) ≡ None
     asks i j k =
         let A = ltb-true a (length line) i in
         let B = ltb-true b (length line) j in

@@ -1,52 +1,49 @@
-// The bytes of a reply, put into a lent buffer of any length.
+// The bytes of a reply, put on a page.
 ghost use Rattle.std.specs.Prelude.{◌∷◌};
 ghost use Rattle.text.specs.Placing.{Wrote};
 ghost use Rattle.text.specs.Printing.{decimal};
 ghost use Rattle.ramp_lines.specs.Replying.{periods_to, taken, answer_by};
 
-use ramp::Counts;
+use ramp::{CannotRun, Controls};
+use text::Page;
 
-// What the counts say, for the ramp of a letter with n rates.
-pub fn answer(out: &mut [u8], letter: u8, n: u8, counts: Counts) -> usize
-    ensures { Wrote out.old 0 (answer_by letter n counts) result out.new }
+// What is answered, for the ramp of a letter with n rates.
+#[tactic(auto, unfolding(crate::specs::Replying::answer_by))]
+pub fn answer(page: &mut Page, letter: u8, n: u8, controls: Result<Controls, CannotRun>)
+    ensures { Wrote page.old (answer_by letter n controls) page.new }
 {
-    match counts {
-        Counts::Taken {
-            step_cntl0,
-            step_cntl1,
-        } => taken(out, letter, n, step_cntl0, step_cntl1),
-        Counts::Refused(q) => printing::number_line(out, 0, b'N', q as u64),
+    match controls {
+        Ok(words) => taken(page, letter, n, words),
+        Err(refusal) => printing::number_line(page, b'N', u64::from(refusal.number())),
     }
 }
 
 // The letter, both words and the periods.
-fn taken(out: &mut [u8], letter: u8, n: u8, cntl0: u16, cntl1: u16) -> usize
-    ensures { Wrote out.old 0 (taken letter n cntl0 cntl1) result out.new }
+fn taken(page: &mut Page, letter: u8, n: u8, words: Controls)
+    ensures { Wrote page.old (taken letter n words.step_cntl0 words.step_cntl1) page.new }
 {
-    let a = text::pair(out, 0, letter, b' ');
-    let b = printing::word(out, a, cntl0);
-    let c = text::put(out, b, b' ');
-    let d = printing::word(out, c, cntl1);
-    let e = periods(out, d, n, cntl0, cntl1);
-    text::put(out, e, b'\n')
+    page.pair(letter, b' ');
+    printing::word(page, words.step_cntl0);
+    page.put(b' ');
+    printing::word(page, words.step_cntl1);
+    periods(page, n, words);
+    page.put(b'\n');
 }
 
 // P(1) to P(n).
-fn periods(out: &mut [u8], at: usize, n: u8, cntl0: u16, cntl1: u16) -> usize
-    ensures { Wrote out.old at (periods_to n cntl0 cntl1) result out.new }
+fn periods(page: &mut Page, n: u8, words: Controls)
+    ensures { Wrote page.old (periods_to n words.step_cntl0 words.step_cntl1) page.new }
 {
-    let mut next = at;
     for r in 0..n {
-        let p = step::period(cntl0, cntl1, r as u16 + 1);
-        next = number(out, next, p as u64);
+        let p = step::period(words.step_cntl0, words.step_cntl1, u16::from(r) + 1);
+        number(page, u64::from(p));
     }
-    next
 }
 
 // A space and a number.
-fn number(out: &mut [u8], at: usize, n: u64) -> usize
-    ensures { Wrote out.old at (32 ∷ decimal n) result out.new }
+fn number(page: &mut Page, n: u64)
+    ensures { Wrote page.old (32 ∷ decimal n) page.new }
 {
-    let a = text::put(out, at, b' ');
-    printing::decimal(out, a, n)
+    page.put(b' ');
+    printing::decimal(page, n);
 }

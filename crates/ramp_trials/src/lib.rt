@@ -1,2 +1,2 @@
-// Worked examples of request #101: specs/ has the tables, proofs/Examples the proof.
+// Worked examples of numbers and ramps from motor sheets: specs/ has the tables, proofs/Examples the proof.
 #![tactic(auto)]

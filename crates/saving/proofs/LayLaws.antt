@@ -1,9 +1,10 @@
 -- One setting read, one word of a block more.
-use Rattle.std.proofs.Common.{◌≡◌, ℕ, ◌+◌, ◌-◌, ◌%◌, List, sym, refl, ◌∙◌, add-one}
+use Rattle.std.proofs.Common.{◌≡◌, ℕ, ◌+◌, ◌-◌, ◌%◌, List, Ok, Err, refl, add-one}
+use Rattle.std.specs.Result.{result_unwrap_or}
 use Rattle.words.specs.Choice.{ask}
 use Rattle.unit.specs.declared.State.{State}
-use Rattle.unit.specs.declared.Reading.{Reading}
-use Rattle.unit.specs.declared.Reading.TheVariants.{Word, Refused}
+use Rattle.unit.specs.declared.Refusal.TheVariants.{NoSuchAddress}
+use Rattle.unit.specs.Refusals.{Reading}
 use Rattle.unit.specs.declared.Place.{Place}
 use Rattle.unit.specs.declared.Place.TheVariants.{AtRegister, AtWord, AtLate, Nowhere}
 use Rattle.unit.specs.Gate.{place, is_place, in_list}
@@ -11,21 +12,17 @@ use Rattle.unit.specs.Calls.{word_at, read_of}
 use Rattle.blocks.specs.Blocks.{with_word, laid, sum, check_word}
 use Rattle.keeping.specs.Layout.{setting_address, setting, held_word, block_word}
 
--- the word of a reading, 0 where it is refused
-abbrev pub shown : Reading → ℕ
-shown (Word w) = w
-shown (Refused n) = 0
-
-read-shows : (s : State) (p : Place) → shown (ask (is_place p) (Refused 1) (Word (word_at s p))) ≡ word_at s p
+read-shows : (s : State) (p : Place) → result_unwrap_or (ask {A = Reading} (is_place p) (Err NoSuchAddress) (Ok (word_at s p))) 0 ≡ word_at s p
 unfolding ask is_place word_at
 read-shows s (AtRegister i) = refl
 read-shows s (AtWord c i) = refl
 read-shows s (AtLate c) = refl
 read-shows s Nowhere = refl
 
-pub reads-setting : (s : State) (n a : ℕ) (r q : Reading) → a ≡ setting_address n → r ≡ read_of s a → r ≡ q → shown q ≡ setting s n
+-- a setting reads as its word, and where there is none as 0
+pub reads-setting : (s : State) (n : ℕ) → result_unwrap_or (read_of s (setting_address n)) 0 ≡ setting s n
 unfolding read_of in_list setting
-reads-setting s n a r q e f g = rw (sym g ∙ f, e) (read-shows s (place (setting_address n)))
+reads-setting s n = read-shows s (place (setting_address n))
 
 -- ---- a block
 

@@ -4,9 +4,10 @@ ghost use Rattle.blocks.specs.Blocks.{laid};
 ghost use Rattle.keeping.specs.Layout.{setting_address, setting, held_word, block_word};
 
 use keeping::{FIRST, LAYOUT, SETTINGS};
-use unit::{Reading, State};
+use unit::State;
 
 // Six words each of channels 0 to 13, the sixteen of 14 and 15, CFSR, CPR.
+#[tactic(auto, unfolding(keeping::specs::Layout::setting_address))]
 pub fn address(n: u8) -> u16
     ensures { result ≡ setting_address n }
 {
@@ -27,30 +28,21 @@ pub fn address(n: u8) -> u16
 fn setting(s: State, n: u8) -> u16
     ensures { result ≡ setting s n }
 {
-    let r = tpu::read(s, address(n));
-    match r {
-        Reading::Word(w) => w,
-        Reading::Refused(_) => 0,
-    }
+    tpu::read(s, address(n)).unwrap_or(0)
 }
 
 // Word i of a block, but the last.
+#[tactic(auto, unfolding(keeping::specs::Layout::held_word))]
 fn held(s: State, version: u32, i: u8) -> u16
     ensures { result ≡ held_word s version i }
 {
-    if i == 0 {
-        return LAYOUT;
+    match i {
+        0 => LAYOUT,
+        1 => (version / 65536) as u16,
+        2 => (version % 65536) as u16,
+        _ if i < FIRST + SETTINGS => setting(s, i - FIRST),
+        _ => 0,
     }
-    if i == 1 {
-        return (version / 65536) as u16;
-    }
-    if i == 2 {
-        return (version % 65536) as u16;
-    }
-    if i < FIRST + SETTINGS {
-        return setting(s, i - FIRST);
-    }
-    0
 }
 
 // The whole block k, its last word from the sum of the others.
@@ -61,7 +53,7 @@ pub fn lay(store: &mut [u8], k: u8, s: State, version: u32)
     for i in 0..255 {
         let w = held(s, version, i);
         blocks::put(store, k, i, w);
-        total = std::num::wrapping_add_u16(total, w);
+        total = total.wrapping_add(w);
     }
     blocks::put(store, k, 255, 0xffff - total);
 }

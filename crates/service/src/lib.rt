@@ -1,14 +1,15 @@
 // The service of a channel, in lent words: its request, then the match that was pending as the service began.
 #![tactic(auto)]
 
-ghost use Rattle.std.specs.Prelude.{◌≡◌, ◌<◌, length};
+ghost use Rattle.std.specs.Prelude.{◌≡◌, ◌<◌};
 ghost use Rattle.motor.specs.Stepping.{on_request};
 ghost use Rattle.unit.specs.TheUnit.{kind_in, time_for, motor_of};
 ghost use Rattle.unit.specs.Stepping.{outcome};
 ghost use Rattle.unit.specs.OneTick.{initialise, step_request, request_served, match_served, served};
-ghost use Rattle.pack.specs.Packing.{state_words, state_in, Holds};
+ghost use Rattle.pack.specs.Packing.{state_in};
 
 use motor::Phase;
+use pack::{ChannelNumber, Words};
 use words::Timer;
 
 // The kind of a channel that is initialised with this CHANNEL_CONTROL: bits 8 to 5 are 0111, by TCR2, or else by TCR1.
@@ -22,9 +23,8 @@ fn kind_in(control: u16) -> Timer
     }
 }
 
-fn initialise(s: &mut [u16], c: u16)
-    requires { (length s.old ≡ state_words) × (c < 16) }
-    ensures { Holds s.new (initialise c (state_in s.old)) }
+fn initialise(s: &mut Words, c: ChannelNumber)
+    ensures { state_in s.new ≡ initialise c.number (state_in s.old) }
 {
     let control = cells::word(s, c, 0);
     let pattern = cells::word(s, c, 1);
@@ -35,9 +35,8 @@ fn initialise(s: &mut [u16], c: u16)
 }
 
 // The motor of c is tested, now.
-fn tested(s: &mut [u16], c: u16)
-    requires { (length s.old ≡ state_words) × (c < 16) }
-    ensures { Holds s.new (outcome (state_in s.old) c (time_for (state_in s.old) c) (on_request (motor_of (state_in s.old) c))) }
+fn tested(s: &mut Words, c: ChannelNumber)
+    ensures { state_in s.new ≡ outcome (state_in s.old) c.number (time_for (state_in s.old) c.number) (on_request (motor_of (state_in s.old) c.number)) }
 {
     let now = matching::time_for(s, c);
     let o = decision::on_request(stepping::motor_of(s, c));
@@ -45,59 +44,47 @@ fn tested(s: &mut [u16], c: u16)
 }
 
 // A group that is stepping goes on as it does.
-fn step_request(s: &mut [u16], c: u16, p: Phase)
-    requires { (length s.old ≡ state_words) × (c < 16) }
-    ensures { Holds s.new (step_request p c (state_in s.old)) }
+fn step_request(s: &mut Words, c: ChannelNumber, p: Phase)
+    ensures { state_in s.new ≡ step_request p c.number (state_in s.old) }
 {
-    match p {
-        Phase::Resting => tested(s, c),
-        Phase::Requested => tested(s, c),
-        Phase::Armed(_) => {}
-        Phase::Matched(_, _) => {}
+    if matches!(p, Phase::Resting | Phase::Requested) {
+        tested(s, c);
     }
 }
 
 // The request of c is no longer pending, and does what it is for.
-#[tactic(auto, unfolding(unit::specs::OneTick::request_served))]
-fn request_served(s: &mut [u16], c: u16)
-    requires { (length s.old ≡ state_words) × (c < 16) }
-    ensures { Holds s.new (request_served c (state_in s.old)) }
+fn request_served(s: &mut Words, c: ChannelNumber)
+    ensures { state_in s.new ≡ request_served c.number (state_in s.old) }
 {
-    let r = registers::request(s, c);
-    if r == 2 {
-        registers::put_request(s, c, 0);
-        initialise(s, c);
-        return;
-    }
-    if r == 3 {
-        let p = cells::phase(s, c);
-        registers::put_request(s, c, 0);
-        step_request(s, c, p);
+    match registers::request(s, c) {
+        2 => {
+            registers::put_request(s, c, 0);
+            initialise(s, c);
+        }
+        3 => {
+            let p = cells::phase(s, c);
+            registers::put_request(s, c, 0);
+            step_request(s, c, p);
+        }
+        _ => {}
     }
 }
 
 // The match of a group in this phase: how late it is served is kept, and its motor is tested from the captured time on.
-fn match_served(s: &mut [u16], c: u16, p: Phase)
-    requires { (length s.old ≡ state_words) × (c < 16) }
-    ensures { Holds s.new (match_served p c (state_in s.old)) }
+fn match_served(s: &mut Words, c: ChannelNumber, p: Phase)
+    ensures { state_in s.new ≡ match_served p c.number (state_in s.old) }
 {
-    match p {
-        Phase::Resting => {}
-        Phase::Requested => {}
-        Phase::Armed(_) => {}
-        Phase::Matched(captured, time) => {
-            let now = matching::time_for(s, c);
-            let t = clock::past(now, time);
-            stores::put_late(s, c, t.counts);
-            let o = decision::on_match(stepping::motor_of(s, c));
-            stepping::outcome(s, c, captured, o);
-        }
+    if let Phase::Matched(captured, time) = p {
+        let now = matching::time_for(s, c);
+        let t = clock::past(now, time);
+        stores::put_late(s, c, t.counts);
+        let o = decision::on_match(stepping::motor_of(s, c));
+        stepping::outcome(s, c, captured, o);
     }
 }
 
-pub fn serve(s: &mut [u16], c: u16)
-    requires { (length s.old ≡ state_words) × (c < 16) }
-    ensures { Holds s.new (served c (state_in s.old)) }
+pub fn serve(s: &mut Words, c: ChannelNumber)
+    ensures { state_in s.new ≡ served c.number (state_in s.old) }
 {
     let p = cells::phase(s, c);
     request_served(s, c);

@@ -1,75 +1,60 @@
 // Which block is loaded, and its writes.
-ghost use Rattle.std.specs.Prelude.{◌≡◌};
+ghost use Rattle.std.specs.Prelude.{◌≡◌, ◌<◌, Ok};
 ghost use Rattle.unit.specs.Calls.{run};
 ghost use Rattle.keeping.specs.Layout.{load_calls};
-ghost use Rattle.keeping.specs.Keeping.{sought, chosen, all_free, load_from};
-ghost use Rattle.keeping.specs.declared.Chosen.TheVariants.{Block};
+ghost use Rattle.keeping.specs.Keeping.{chosen, all_free, load_from};
 
-use blocks::{Found, Search};
-use keeping::{Chosen, FIRST, Kept, LAYOUT, Loaded, SETTINGS, Which};
+use keeping::{FIRST, LAYOUT, Loaded, Refusal, SETTINGS, Which};
 use saving::layout;
 use unit::State;
 
-fn sought(which: Which) -> Search
-    ensures { result ≡ sought which }
-{
-    match which {
-        Which::Latest => Search::Newest,
-        Which::Version(v) => Search::Named(v),
-    }
-}
-
-// What the store refuses comes first: 12 where nothing is found, 13 where the layout is not known.
-pub fn chosen(store: &[u8], which: Which) -> Chosen
+// What the store refuses comes first: that nothing is found, and then that the layout is not known.
+pub fn chosen(store: &[u8], which: Which) -> Result<u8, Refusal>
     ensures { result ≡ chosen store.now which }
 {
-    let at = blocks::find(store, sought(which));
-    let Found::At(k) = at else {
-        return Chosen::No(12);
-    };
+    let k = blocks::find(store, which.into()).ok_or(Refusal::NoVersion)?;
     if blocks::word(store, k, 0) != LAYOUT {
-        return Chosen::No(13);
+        return Err(Refusal::UnknownLayout);
     }
-    Chosen::Block(k)
+    Ok(k)
 }
 
 fn all_free(s: State) -> bool
     ensures { result ≡ all_free s }
 {
-    let mut w = [0u16; pack::layout::WORDS];
+    let mut w = [0; pack::layout::WORDS];
     pack::pack(s, &mut w);
-    let mut free = true;
-    for c in 0..16 {
-        free = free & binding::is_free(&w, c);
-    }
-    free
+    (0..16).all(
+        |c|
+            requires { c < 16 }
+        { binding::is_free(&w, pack::ChannelNumber { number: c }) },
+    )
 }
 
 // One ordinary write after another, in the order of the block.
-fn played(mut s: State, store: &[u8], k: u8) -> State
+fn played(s: State, store: &[u8], k: u8) -> State
     ensures { result ≡ run s (load_calls store.now k) }
 {
-    for n in 0..SETTINGS {
-        let written = tpu::write(s, layout::address(n), blocks::word(store, k, FIRST + n));
-        let next = written.state;
-        s = next;
-    }
-    s
+    (0..SETTINGS).fold(
+        s,
+        |s, n|
+            requires { n < 106 }
+        { tpu::write(s, layout::address(n), blocks::word(store, k, FIRST + n)).state },
+    )
 }
 
+#[tactic(auto, using(words::proofs::ChoiceLaws::goes_on, words::proofs::ChoiceLaws::stops), unfolding(keeping::specs::Keeping::load_from))]
 pub fn from(s: State, store: &[u8], k: u8) -> Loaded
-    ensures { result ≡ load_from s store.now (Block k) }
+    ensures { result ≡ load_from s store.now (Ok k) }
 {
     if !all_free(s) {
         return Loaded {
-            answer: Kept::Refused(2),
+            answer: Err(Refusal::NotFree),
             state: s,
         };
     }
-    let version = blocks::version(store, k);
-    let next = played(s, store, k);
     Loaded {
-        answer: Kept::Taken(version),
-        state: next,
+        answer: Ok(blocks::version(store, k)),
+        state: played(s, store, k),
     }
 }

@@ -1,5 +1,5 @@
 -- The count of a faster speed is never larger: its period is not longer, and neither is that over the tick length.
-use mathlib.Core.Path.{◌≡◌, refl, sym, ◌∙◌}
+use mathlib.Core.Path.{◌≡◌, refl}
 use mathlib.Core.Bool.{false}
 use Prim.Native.Nat.{ℕ, ◌*◌, ◌≤◌}
 use native.Mathlib.Nat.{mul-one, mul_comm, mul_assoc, mul-mul-mul_comm, mul-le-mul_left, mul-le-mul_right}
@@ -10,8 +10,8 @@ use lib.Ieee.{Float, nan, inf, fin, binary64, div, lt, le}
 use lib.Ieee.Positive.{num, den, positive}
 use Rattle.floats.proofs.Quotient.{Finite, quotient-plain, quotients, finite-le, not-below}
 use Rattle.nearest.specs.Counting.{count_of}
-use Rattle.nearest.specs.declared.Count.TheVariants.{Whole, Outside}
-use Rattle.nearest.proofs.NearestLaws.{no-count, nearest-whole}
+use Rattle.std.specs.Prelude.{Some, None}
+use Rattle.nearest.proofs.NearestLaws.{nearest-whole}
 use Rattle.sheet.specs.Numbers.{thousand, is_speedup, period_count, speed_count}
 use Rattle.sheet.specs.Claims.{Faster}
 use Rattle.sheet.proofs.NumberLaws.{passed}
@@ -32,17 +32,17 @@ thousand-over x dx y dy h = rw (mul-one x, mul-one y, mul_assoc 1000 dy x, mul_a
 thousand-finite : Finite thousand
 thousand-finite = (tt, λ (e : thousand ≡ inf false). let z : ◌≡◌ {A = ℕ} 0 1 = cc in omega arith)
 
-endless : (y : Float) → T (positive y) → count_of (div binary64 (inf false) y) ≡ Outside
+endless : (y : Float) → T (positive y) → count_of (div binary64 (inf false) y) ≡ None
 unfolding count_of div
 endless nan p = absurd p
 endless (inf s) p = absurd p
 endless (fin s m e) p = refl
 
 -- a period with a count is finite
-counted-finite : (speed tick : Float) (k : ℕ) → T (positive speed) → T (positive tick) → speed_count speed tick ≡ Whole k → Finite (div binary64 thousand speed)
+counted-finite : (speed tick : Float) (k : ℕ) → T (positive speed) → T (positive tick) → speed_count speed tick ≡ Some k → Finite (div binary64 thousand speed)
 unfolding speed_count period_count
 counted-finite speed tick k s t h =
-    (quotient-plain thousand speed thousand-finite s, λ (e : div binary64 thousand speed ≡ inf false). no-count k (sym (endless tick t) ∙ (rw e at h)))
+    (quotient-plain thousand speed thousand-finite s, λ (e : div binary64 thousand speed ≡ inf false). cc (endless tick t))
 
 pub faster : Faster
 unfolding is_speedup speed_count period_count

@@ -1,4 +1,4 @@
--- What holds of the numbers of a sheet, and of the counts of two speeds. Paper 02, #101.
+-- What holds of the numbers of a sheet, and of the counts of two speeds.
 use Rattle.std.specs.Prelude.{ℕ, ◌≤◌, ◌<◌, ◌≡◌, ◌↔◌, true, false, Float}
 use Rattle.std.specs.Float.{nan, inf, fin}
 use Rattle.std.specs.Float.Ieee.{lt}

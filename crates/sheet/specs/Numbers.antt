@@ -1,11 +1,9 @@
--- The numbers of a motor sheet: which are taken, and their counts. Paper 02, #101. Floats are compared and divided as the machine
+-- The numbers of a motor sheet: which are taken, and their counts. Floats are compared and divided as the machine
 -- does it.
-use Rattle.std.specs.Prelude.{ℕ, ◌≤◌, ◌≡◌, Bool, false, not, ◌&&◌, pos, leb, Float}
+use Rattle.std.specs.Prelude.{ℕ, ◌≤◌, ◌≡◌, Bool, false, not, ◌&&◌, pos, leb, Option, Some, Float}
 use Rattle.std.specs.Float.{fin, inf, binary64}
 use Rattle.std.specs.Float.Ieee.{lt, le, div}
 use Rattle.nearest.specs.Counting.{count_of}
-use Rattle.nearest.specs.declared.Count.{Count}
-use Rattle.nearest.specs.declared.Count.TheVariants.{Whole}
 
 -- 0.0, 1000.0 (125 * 2 ^ 3) and infinity
 abbrev pub nothing : Float
@@ -36,13 +34,13 @@ is_speedup slow fast = not (lt fast slow)
 -- ---- their counts
 
 -- a time in milliseconds over the tick length, one division, and the nearest whole number
-unfoldable pub period_count : Float → Float → Count
+unfoldable pub period_count : Float → Float → Option ℕ
 period_count period tick = count_of (div binary64 period tick)
 
 -- a speed's period is 1000 over the speed first
-unfoldable pub speed_count : Float → Float → Count
+unfoldable pub speed_count : Float → Float → Option ℕ
 speed_count speed tick = period_count (div binary64 thousand speed) tick
 
 -- the second of two counts is not the larger
-abbrev pub InOrder : Count → Count → Type 0
-InOrder first last = (p q : ℕ) → first ≡ Whole p → last ≡ Whole q → q ≤ p
+abbrev pub InOrder : Option ℕ → Option ℕ → Type 0
+InOrder first last = (p q : ℕ) → first ≡ Some p → last ≡ Some q → q ≤ p

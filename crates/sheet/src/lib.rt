@@ -1,49 +1,35 @@
-// The numbers of a motor sheet: which are taken, and their counts. Paper 02, #101.
+// The numbers of a motor sheet: which are taken, and their counts.
 #![tactic(auto)]
 
 ghost use Rattle.std.specs.Prelude.{◌≡◌};
-ghost use Rattle.std.specs.Float.Ieee.{lt};
-ghost use Rattle.sheet.specs.Numbers.{infinity, is_rate_count, is_positive, is_difference, is_speedup, period_count, speed_count};
-
-use nearest::Count;
+ghost use Rattle.sheet.specs.Numbers.{is_rate_count, is_positive, is_difference, is_speedup, period_count, speed_count};
 
 // N is one that STEP_RATE_CNT may have.
+#[tactic(auto, unfolding(crate::specs::Numbers::is_rate_count))]
 pub fn is_rate_count(n: u8) -> bool
     ensures { result ≡ is_rate_count n }
 {
-    if n < 1 {
-        return false;
-    }
-    n as u16 <= unit::State::MAX_RATE
-}
-
-fn is_below_infinity(x: f64) -> bool
-    ensures { result ≡ lt x infinity }
-{
-    x < f64::from_bits(0x7ff0_0000_0000_0000)
+    1 <= n && n as u16 <= unit::State::MAX_RATE
 }
 
 // Finite and above zero.
+#[tactic(auto, unfolding(crate::specs::Numbers::is_positive))]
 pub fn is_positive(x: f64) -> bool
     ensures { result ≡ is_positive x }
 {
-    if 0.0 < x {
-        return is_below_infinity(x);
-    }
-    false
+    0.0 < x && x < f64::INFINITY
 }
 
 // Finite and not below zero: -0.0 is zero.
+#[tactic(auto, unfolding(crate::specs::Numbers::is_difference))]
 pub fn is_difference(x: f64) -> bool
     ensures { result ≡ is_difference x }
 {
-    if 0.0 <= x {
-        return is_below_infinity(x);
-    }
-    false
+    0.0 <= x && x < f64::INFINITY
 }
 
 // The top speed is not below the slowest.
+#[tactic(auto, unfolding(crate::specs::Numbers::is_speedup))]
 pub fn is_speedup(slow: f64, fast: f64) -> bool
     ensures { result ≡ is_speedup slow fast }
 {
@@ -51,14 +37,15 @@ pub fn is_speedup(slow: f64, fast: f64) -> bool
 }
 
 // A period in milliseconds, in ticks.
-pub fn period_count(period: f64, tick: f64) -> Count
+#[tactic(auto, unfolding(crate::specs::Numbers::period_count))]
+pub fn period_count(period: f64, tick: f64) -> Option<u16>
     ensures { result ≡ period_count period tick }
 {
     nearest::nearest(period / tick)
 }
 
 // The period of a speed in steps a second, in ticks.
-pub fn speed_count(speed: f64, tick: f64) -> Count
+pub fn speed_count(speed: f64, tick: f64) -> Option<u16>
     ensures { result ≡ speed_count speed tick }
 {
     period_count(1000.0 / speed, tick)

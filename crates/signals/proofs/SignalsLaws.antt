@@ -1,25 +1,33 @@
--- A bit of a word as a level, and the test of what is printed.
-use Prim.Native.Nat.{ℕ, ◌%◌, ◌<◌}
-use mathlib.Core.Path.{◌≡◌}
-use mathlib.Core.Bool.{Bool, true, false, not, ◌||◌}
-use native.Mathlib.Omega.{arith}
-use lib.Dec.{eqb}
-use borrow.Author.Tests.{not-true, not-false}
+-- A bit of a word, and as a number; and what `map` makes of an option.
+use Rattle.std.proofs.Common.{◌≡◌, ℕ, ◌%◌, ◌<◌, Bool, true, false, Bor, Option, Some, None, option_map, refl, ap, arith}
+use Rattle.std.specs.Int.{from_bool}
+use Rattle.std.specs.Option.{MatchOption, IsSomeAnd, option_copied}
 use Rattle.words.specs.Field.{bit_of, bit_value}
-use Rattle.signals.specs.Signals.{is_wanted}
 
-pub level-of : (w i v : ℕ) (on : Bool) → i < 16 → on ≡ bit_of w (i % 16) → v ≡ bit_value on → v ≡ bit_value (bit_of w i)
-level-of w i v on h e f =
+pub level : (on : Bool) → from_bool on ≡ bit_value on
+level true = refl
+level false = refl
+
+pub bit_at : (w i : ℕ) (on : Bool) → i < 16 → on ≡ bit_of w (i % 16) → on ≡ bit_of w i
+bit_at w i on h e =
     let r : i % 16 ≡ i = omega arith in
-    let o : on ≡ bit_of w i = rw r at e in
-    rw (← o) f
+    rw r at e
 
--- the code's test of what is printed
-module _ (all : Bool) (old v : ℕ) where
-  pub unwanted : not (all || not (eqb old v)) ≡ true → is_wanted all old v ≡ false
-  unfolding is_wanted
-  unwanted t = not-true _ t
+pub mapped : {A B : Type 0} (o : Option A) (r : Option B) (f : A → B) (gave : A → B → Type 0) → ((x : A) (y : B) → gave x y → y ≡ f x) → MatchOption o (r ≡ None) (λ x. IsSomeAnd r (gave x)) → r ≡ option_map f o
+mapped None r f gave h e = e
+mapped (Some x) (Some y) f gave h p = ap Some (h x y p)
+mapped (Some x) None f gave h p = absurd p
 
-  pub wanted : not (all || not (eqb old v)) ≡ false → is_wanted all old v ≡ true
-  unfolding is_wanted
-  wanted t = not-false _ t
+-- and what comes back of it by the other way
+pub came_back : {A B : Type 0} (o : Option A) (r : Option B) (back : B → A) (gave : A → B → Type 0) → ((x : A) (y : B) → gave x y → back y ≡ x) → MatchOption o (r ≡ None) (λ x. IsSomeAnd r (gave x)) → option_map back r ≡ o
+came_back None r back gave h e = ap (option_map back) e
+came_back (Some x) (Some y) back gave h p = ap Some (h x y p)
+came_back (Some x) None back gave h p = absurd p
+
+pub fused : {A B C : Type 0} (f : A → B) (g : B → C) (o : Option A) → option_map g (option_map f o) ≡ option_map (λ x. g (f x)) o
+fused f g None = refl
+fused f g (Some x) = refl
+
+pub lent : {A B : Type 0} (f : A → B) (o : Option (Bor A)) → option_map (λ x. f x.now) o ≡ option_map f (option_copied o)
+lent f None = refl
+lent f (Some x) = refl

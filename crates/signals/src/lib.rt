@@ -1,135 +1,113 @@
-// The values of what is shown of a state, put into a lent buffer of any length: each function takes the place to begin at and
-// answers the next.
+// The values of what is shown of a state, put on a page.
 #![tactic(auto)]
 
-ghost use Rattle.std.specs.Prelude.{◌≡◌, ◌<◌, length};
+ghost use Rattle.std.specs.Prelude.{◌≡◌, ◌<◌, option_map, Some};
 ghost use Rattle.text.specs.Placing.{Wrote};
-ghost use Rattle.words.specs.Field.{bit_value};
-ghost use Rattle.pack.specs.Packing.{state_words, state_in};
+ghost use Rattle.pack.specs.Packing.{state_in};
 ghost use Rattle.signals.specs.Signals.{position_of, binary, vector, wire_value, vector_value, pin_values, position_values, values};
 
-use pack::layout;
+use pack::{ChannelNumber, Words, layout};
+use text::Page;
 use unit::State;
 
-// The values of a state: all of them, or those that differ from the old ones.
-pub fn values(out: &mut [u8], at: usize, all: bool, old: State, s: State) -> usize
-    ensures { Wrote out.old at (values all old s) result out.new }
+// All values of a state, or those that differ from an old one's.
+pub fn values(page: &mut Page, old: Option<State>, s: State)
+    ensures { Wrote page.old (values old s) page.new }
 {
-    let mut old_words = [0u16; layout::WORDS];
-    pack::pack(old, &mut old_words);
-    let mut new_words = [0u16; layout::WORDS];
-    pack::pack(s, &mut new_words);
-    let a = pins(out, at, all, old.pins, s.pins);
-    let b = vector_value(
-        out,
-        a,
-        all,
-        old.timers.tcr1 as u32,
-        s.timers.tcr1 as u32,
-        b'!',
-    );
-    let c = positions(out, b, all, &old_words, &new_words);
-    wire_value(
-        out,
-        c,
-        all,
-        level(deeds::interrupt_line(&old_words)),
-        level(deeds::interrupt_line(&new_words)),
-        b'"',
-    )
+    let packed = old.map(words_of);
+    let old_words = packed.as_ref();
+    let words = words_of(s);
+    pins(page, old.map(|o| o.pins), s.pins);
+    let old_tcr1 = old.map(|o| Some(o.timers.tcr1));
+    vector_value(page, old_tcr1, Some(s.timers.tcr1), b'!');
+    positions(page, old_words, &words);
+    let old_line = old_words.map(|o| deeds::interrupt_line(o));
+    wire_value(page, old_line, deeds::interrupt_line(&words), b'"');
 }
 
-fn pins(out: &mut [u8], at: usize, all: bool, old: u16, w: u16) -> usize
-    ensures { Wrote out.old at (pin_values 16 all old w) result out.new }
+fn words_of(s: State) -> Words
+    ensures { state_in result ≡ s }
 {
-    let mut next = at;
+    let mut words = [0; layout::WORDS];
+    pack::pack(s, &mut words);
+    words
+}
+
+fn pins(page: &mut Page, old: Option<u16>, pins: u16)
+    ensures { Wrote page.old (pin_values 16 old pins) page.new }
+{
     for c in 0..16 {
-        next = wire_value(
-            out,
-            next,
-            all,
-            level(bitfield::bit(old, c)),
-            level(bitfield::bit(w, c)),
-            b'a' + c as u8,
-        );
+        let old_pin = old.map(|o| bitfield::bit(o, c));
+        wire_value(page, old_pin, bitfield::bit(pins, c), b'a' + c as u8);
     }
-    next
 }
 
-// The words of both states are lent, here and below.
-fn positions(out: &mut [u8], at: usize, all: bool, old: &[u16], s: &[u16]) -> usize
-    requires { (length old.now ≡ state_words) × (length s.now ≡ state_words) }
-    ensures { Wrote out.old at
-        (position_values 16 all (state_in old.now) (state_in s.now)) result out.new }
+// The words of both states are lent.
+fn positions(page: &mut Page, old: Option<&Words>, words: &Words)
+    ensures { Wrote page.old (position_values 16 (option_map (λ o. state_in o.now) old.entry) (state_in words.now)) page.new }
 {
-    let mut next = at;
     for c in 0..16 {
-        next = vector_value(
-            out,
-            next,
-            all,
-            position_of(old, c),
-            position_of(s, c),
+        let old_position = old.map(
+            |o|
+                requires { c < 16 }
+            { position_of(o, ChannelNumber { number: c }) },
+        );
+        vector_value(
+            page,
+            old_position,
+            position_of(words, ChannelNumber { number: c }),
             b'A' + c as u8,
         );
     }
-    next
 }
 
-fn wire_value(out: &mut [u8], at: usize, all: bool, old: u32, v: u32, id: u8) -> usize
-    ensures { Wrote out.old at (wire_value all old v id) result out.new }
+// A wire's value, unless it is the old one.
+fn wire_value(page: &mut Page, old: Option<bool>, on: bool, id: u8)
+    ensures { Wrote page.old (wire_value old on id) page.new }
 {
-    if !(all | (old != v)) {
-        return at;
+    if old == Some(on) {
+        return;
     }
-    let a = printing::decimal(out, at, v as u64);
-    text::bytes(out, a, &[id, b'\n'])
+    printing::decimal(page, u64::from(on));
+    page.text(&[id, b'\n']);
 }
 
-fn vector_value(out: &mut [u8], at: usize, all: bool, old: u32, v: u32, id: u8) -> usize
-    ensures { Wrote out.old at (vector_value all old v id) result out.new }
+// A vector's value, unless it is the old one.
+fn vector_value(page: &mut Page, old: Option<Option<u16>>, value: Option<u16>, id: u8)
+    ensures { Wrote page.old (vector_value old value id) page.new }
 {
-    if !(all | (old != v)) {
-        return at;
+    if old == Some(value) {
+        return;
     }
-    let a = vector(out, at, v);
-    text::bytes(out, a, &[b' ', id, b'\n'])
+    vector(page, value);
+    page.text(&[b' ', id, b'\n']);
 }
 
-fn vector(out: &mut [u8], at: usize, v: u32) -> usize
-    ensures { Wrote out.old at (vector v) result out.new }
+fn vector(page: &mut Page, value: Option<u16>)
+    ensures { Wrote page.old (vector value) page.new }
 {
-    if v < 65536 {
-        let a = text::put(out, at, b'b');
-        return binary(out, a, v as u16);
+    match value {
+        Some(w) => {
+            page.put(b'b');
+            binary(page, w);
+        }
+        None => page.text(b"bx"),
     }
-    text::bytes(out, at, b"bx")
 }
 
 // Sixteen binary digits, the highest first.
-fn binary(out: &mut [u8], at: usize, w: u16) -> usize
-    ensures { Wrote out.old at (binary 16 w) result out.new }
+fn binary(page: &mut Page, w: u16)
+    ensures { Wrote page.old (binary 16 w) page.new }
 {
-    let mut next = at;
     for k in 0..16 {
-        next = printing::decimal(out, next, level(bitfield::bit(w, 15 - k)) as u64);
+        printing::decimal(page, u64::from(bitfield::bit(w, 15 - k)));
     }
-    next
 }
 
-fn level(on: bool) -> u32
-    ensures { result ≡ bit_value on }
+// The position of a bound primary.
+#[tactic(auto, unfolding(crate::specs::Signals::position_of, unit::specs::TheUnit::position))]
+fn position_of(words: &Words, c: ChannelNumber) -> Option<u16>
+    ensures { result ≡ position_of (state_in words.now) c.number }
 {
-    if on { 1 } else { 0 }
-}
-
-// The position of a bound primary. No position is 65,536.
-fn position_of(s: &[u16], c: u16) -> u32
-    requires { (length s.now ≡ state_words) × (c < 16) }
-    ensures { result ≡ position_of (state_in s.now) c }
-{
-    if !binding::stepping(s, c) {
-        return 65536;
-    }
-    cells::word(s, c, 2) as u32
+    binding::stepping(words, c).then(|| cells::word(words, c, 2))
 }

@@ -6,14 +6,12 @@ use mathlib.Core.Logic.{◌≢◌, ◌⊎◌, inl, inr}
 use mathlib.Core.Path.{◌≡◌, refl, sym}
 use lib.Dec.{eqb}
 use borrow.Author.Tests.{ne_eqb, eqb-false}
+use Rattle.std.specs.Prelude.{Option, Some, None}
 use Rattle.words.specs.Choice.{pick}
 use Rattle.words.proofs.ChoiceLaws.{not-both, pick-cases, same-pick}
 use Rattle.slots.specs.declared.Slots.{Slots}
-use Rattle.slots.specs.declared.Found.{Found}
-use Rattle.slots.specs.declared.Found.TheVariants.{At, Nothing}
 use Rattle.slots.specs.declared.Service.{Service}
-use Rattle.slots.specs.declared.Service.TheVariants.{Of, Nobody}
-use Rattle.slots.specs.Slots.{Asks, slot_level, begins, served, found, serves, next_in, highest, chosen}
+use Rattle.slots.specs.Slots.{to_channel, Asks, slot_level, begins, served, found, serves, next_in, highest, chosen}
 
 -- ---- a search
 
@@ -21,7 +19,7 @@ use Rattle.slots.specs.Slots.{Asks, slot_level, begins, served, found, serves, n
 pub record FoundBy (n c i : ℕ) (f : ℕ → Bool) : Type 0 where
   pub place : ℕ
   pub sooner : place ≤ i
-  pub there : found n c f ≡ At ((c + place) % 16)
+  pub there : found n c f ≡ Some ((c + place) % 16)
 
 found_here : (n c : ℕ) (f : ℕ → Bool) → f (c % 16) ≡ true → FoundBy (suc n) c 0 f
 unfolding found
@@ -50,12 +48,12 @@ found-by zero c i f h t = absurd (omega arith)
 found-by (suc n) c i f h t = found-case n c i f (f (c % 16)) refl h t (λ k. found-by n (suc c) k f)
 
 -- what is found is one of sixteen, and holds
-pub found-holds : (n c d : ℕ) (f : ℕ → Bool) → found n c f ≡ At d → (d < 16) × (f d ≡ true)
+pub found-holds : (n c d : ℕ) (f : ℕ → Bool) → found n c f ≡ Some d → (d < 16) × (f d ≡ true)
 unfolding found
 found-holds zero c d f e = absurd (let z : ◌≡◌ {A = ℕ} 0 1 = cc in omega arith)
 found-holds (suc n) c d f e = by (f (c % 16)) refl e (found-holds n (suc c) d f)
   where
-    by : (b : Bool) → f (c % 16) ≡ b → pick b (At (c % 16)) (found n (suc c) f) ≡ At d → (found n (suc c) f ≡ At d → (d < 16) × (f d ≡ true))
+    by : (b : Bool) → f (c % 16) ≡ b → pick b (Some (c % 16)) (found n (suc c) f) ≡ Some d → (found n (suc c) f ≡ Some d → (d < 16) × (f d ≡ true))
         → (d < 16) × (f d ≡ true)
     by true t e rest = let h : c % 16 ≡ d = cc in (omega arith, rw (← h) t)
     by false t e rest = rest e
@@ -108,12 +106,12 @@ slot-served s level d =
 -- at level k: its own, or its own has none and k is the highest that has one
 abbrev pub GoesBy : Slots → Asks → ℕ → Type 0
 GoesBy s asks k =
-    (k ≡ slot_level s.slot) ⊎ ((next_in s asks (slot_level s.slot) ≡ Nothing) × ((h : ℕ) → k < h → h ≤ 3 → next_in s asks h ≡ Nothing))
+    (k ≡ slot_level s.slot) ⊎ ((next_in s asks (slot_level s.slot) ≡ None) × ((h : ℕ) → k < h → h ≤ 3 → next_in s asks h ≡ None))
 
 -- to show P of a slot, show it of what a level finds by which the slot may go, and of nobody where no level finds anything
-pub chosen-cases : (P : Service → Type 0) (s : Slots) (asks : Asks)
-    → ((k d : ℕ) → 1 ≤ k → k ≤ 3 → GoesBy s asks k → next_in s asks k ≡ At d → P (Of d (served s k d)))
-    → (((h : ℕ) → 1 ≤ h → h ≤ 3 → next_in s asks h ≡ Nothing) → P Nobody) → P (chosen s asks)
+pub chosen-cases : (P : Option Service → Type 0) (s : Slots) (asks : Asks)
+    → ((k d : ℕ) → 1 ≤ k → k ≤ 3 → GoesBy s asks k → next_in s asks k ≡ Some d → P (to_channel d (served s k d)))
+    → (((h : ℕ) → 1 ≤ h → h ≤ 3 → next_in s asks h ≡ None) → P None) → P (chosen s asks)
 unfolding chosen highest
 chosen-cases P s asks f g =
     let own : (1 ≤ slot_level s.slot) × (slot_level s.slot ≤ 3) = slot-level-bounds s.slot in
@@ -121,16 +119,16 @@ chosen-cases P s asks f g =
     (λ o. at_level 3 _ (λ d. f 3 d (omega arith) (omega arith) (inr (o, λ h a b. absurd (omega arith))))
     (λ e₃. at_level 2 _ (λ d. f 2 d (omega arith) (omega arith) (inr (o, above 2 (λ l. absurd (omega arith)) (λ l. absurd (omega arith)) e₃)))
     (λ e₂. at_level 1 _ (λ d. f 1 d (omega arith) (omega arith) (inr (o, above 1 (λ l. absurd (omega arith)) (λ l. e₂) e₃)))
-    (λ e₁. g (each_level (λ h. next_in s asks h ≡ Nothing) e₁ e₂ e₃)))))
+    (λ e₁. g (each_level (λ h. next_in s asks h ≡ None) e₁ e₂ e₃)))))
   where
-    above : (k : ℕ) → (k < 1 → next_in s asks 1 ≡ Nothing) → (k < 2 → next_in s asks 2 ≡ Nothing) → next_in s asks 3 ≡ Nothing
-        → (h : ℕ) → k < h → h ≤ 3 → next_in s asks h ≡ Nothing
-    above k p q r h a b = each_level (λ h. k < h → next_in s asks h ≡ Nothing) p q (λ l. r) h (omega arith) b a
+    above : (k : ℕ) → (k < 1 → next_in s asks 1 ≡ None) → (k < 2 → next_in s asks 2 ≡ None) → next_in s asks 3 ≡ None
+        → (h : ℕ) → k < h → h ≤ 3 → next_in s asks h ≡ None
+    above k p q r h a b = each_level (λ h. k < h → next_in s asks h ≡ None) p q (λ l. r) h (omega arith) b a
 
-    at_level : (k : ℕ) (rest : Service) → ((d : ℕ) → next_in s asks k ≡ At d → P (Of d (served s k d))) → (next_in s asks k ≡ Nothing → P rest)
+    at_level : (k : ℕ) (rest : Option Service) → ((d : ℕ) → next_in s asks k ≡ Some d → P (to_channel d (served s k d))) → (next_in s asks k ≡ None → P rest)
         → P (serves s k (next_in s asks k) rest)
     at_level k rest f g = by (next_in s asks k) refl
       where
-        by : (v : Found) → next_in s asks k ≡ v → P (serves s k v rest)
-        by (At d) e = f d e
-        by Nothing e = g e
+        by : (v : Option ℕ) → next_in s asks k ≡ v → P (serves s k v rest)
+        by (Some d) e = f d e
+        by None e = g e

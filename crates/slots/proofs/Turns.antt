@@ -4,15 +4,15 @@ use native.Mathlib.Omega.{arith}
 use mathlib.Core.Bool.{Bool, true, false}
 use mathlib.Core.List.{List, [], ◌∷◌}
 use mathlib.Core.Logic.{inl, inr, ⊎_elim}
-use mathlib.Core.Path.{◌≡◌, refl, sym, subst, ◌∙◌}
+use mathlib.Core.Path.{◌≡◌, refl, sym, ap, subst, ◌∙◌}
 use lib.Dec.{ltb}
 use lib.ListN.{length}
 use borrow.Author.Tests.{ne_eqb, ltb-true, ltb-false}
+use Rattle.std.specs.Prelude.{Some, None}
 use Rattle.words.proofs.ChoiceLaws.{not-both, fails}
 use Rattle.slots.specs.declared.Slots.{Slots}
-use Rattle.slots.specs.declared.Found.TheVariants.{At, Nothing}
-use Rattle.slots.specs.declared.Service.TheVariants.{Of, Nobody}
-use Rattle.slots.specs.Slots.{Asks, reset_slots, ticked, idled, slot_level, begins, served, next_in, highest, chosen}
+use Rattle.slots.specs.declared.Service.{Service}
+use Rattle.slots.specs.Slots.{to_channel, Asks, reset_slots, ticked, idled, slot_level, begins, served, next_in, highest, chosen}
 use Rattle.slots.specs.Claims.{Levels, goes_to, leaves, service_of, next, others_before, NoneReady, Turn, after}
 use Rattle.slots.proofs.SlotLaws.{FoundBy, found-by, found-holds, found-same}
 use Rattle.slots.proofs.SlotLaws.{slot-level-bounds, begins-same, begins-other, slot-served, GoesBy, chosen-cases}
@@ -43,13 +43,13 @@ ready-found s asks level c h a =
     found-by 16 b (others_before s level c) (asks level) (omega arith) (rw (place_of b c h) a)
 
 -- so it does not find nothing
-pub none_found : (s : Slots) (asks : Asks) (level : ℕ) → next_in s asks level ≡ Nothing → NoneReady asks level
+pub none_found : (s : Slots) (asks : Asks) (level : ℕ) → next_in s asks level ≡ None → NoneReady asks level
 none_found s asks level e c h =
     fails (asks level c) (λ a. let z : ◌≡◌ {A = ℕ} 0 1 = cc (ready-found s asks level c h a).there in omega arith)
 
 -- ---- whom a slot goes to
 
-nearest : (s : Slots) (asks : Asks) (level c d : ℕ) → next_in s asks level ≡ At c → d < 16 → asks level d ≡ true
+nearest : (s : Slots) (asks : Asks) (level c d : ℕ) → next_in s asks level ≡ Some c → d < 16 → asks level d ≡ true
     → others_before s level c ≤ others_before s level d
 unfolding others_before
 nearest s asks level c d e h a =
@@ -58,11 +58,11 @@ nearest s asks level c d e h a =
     let f : (c + (16 - begins s level % 16)) % 16 ≡ r.place = rw same (place-back (begins s level) r.place (omega (arith, r.sooner))) in
     rw f r.sooner
 
-pub turns : (s t : Slots) (asks : Asks) (c : ℕ) → chosen s asks ≡ Of c t → Turn s asks c t
+pub turns : (s t : Slots) (asks : Asks) (c : ℕ) → chosen s asks ≡ to_channel c t → Turn s asks c t
 turns s t asks c =
-    chosen-cases (λ v. v ≡ Of c t → Turn s asks c t) s asks found (λ _ e. absurd (let z : ◌≡◌ {A = ℕ} 0 1 = cc in omega arith))
+    chosen-cases (λ v. v ≡ to_channel c t → Turn s asks c t) s asks found (λ _ e. absurd (let z : ◌≡◌ {A = ℕ} 0 1 = cc in omega arith))
   where
-    turn : (k d : ℕ) → 1 ≤ k → k ≤ 3 → GoesBy s asks k → next_in s asks k ≡ At d → Turn s asks d (served s k d)
+    turn : (k d : ℕ) → 1 ≤ k → k ≤ 3 → GoesBy s asks k → next_in s asks k ≡ Some d → Turn s asks d (served s k d)
     turn k d a b w n =
         record {
           level = k;
@@ -75,21 +75,22 @@ turns s t asks c =
           slot = slot-served s k d;
         }
 
-    found : (k d : ℕ) → 1 ≤ k → k ≤ 3 → GoesBy s asks k → next_in s asks k ≡ At d → Of d (served s k d) ≡ Of c t → Turn s asks c t
+    found : (k d : ℕ) → 1 ≤ k → k ≤ 3 → GoesBy s asks k → next_in s asks k ≡ Some d → to_channel d (served s k d) ≡ to_channel c t → Turn s asks c t
     found k d a b w n e =
-        let same : d ≡ c = cc in
-        let left : served s k d ≡ t = cc in
+        let gone : ◌≡◌ {A = Service} record { channel = d; slots = served s k d } record { channel = c; slots = t } = cc in
+        let same : d ≡ c = ap (λ (v : Service). v.channel) gone in
+        let left : served s k d ≡ t = ap (λ (v : Service). v.slots) gone in
         subst (λ x. Turn s asks c x) left (subst (λ x. Turn s asks x (served s k d)) same (turn k d a b w n))
 
-pub idles : (s : Slots) (asks : Asks) → chosen s asks ≡ Nobody → (level c : ℕ) → Levels level c → asks level c ≡ false
+pub idles : (s : Slots) (asks : Asks) → chosen s asks ≡ None → (level c : ℕ) → Levels level c → asks level c ≡ false
 idles s asks e level c l =
-    chosen-cases (λ v. v ≡ Nobody → asks level c ≡ false) s asks (λ k d a b w n e. absurd (let z : ◌≡◌ {A = ℕ} 0 1 = cc in omega arith))
+    chosen-cases (λ v. v ≡ None → asks level c ≡ false) s asks (λ k d a b w n e. absurd (let z : ◌≡◌ {A = ℕ} 0 1 = cc in omega arith))
     (λ none _. none_found s asks level (none level l.least l.most) c l.channel) e
 
-pub nobody : (s : Slots) (asks : Asks) → ((level c : ℕ) → Levels level c → asks level c ≡ false) → chosen s asks ≡ Nobody
-nobody s asks h = chosen-cases (λ v. v ≡ Nobody) s asks found (λ _. refl)
+pub nobody : (s : Slots) (asks : Asks) → ((level c : ℕ) → Levels level c → asks level c ≡ false) → chosen s asks ≡ None
+nobody s asks h = chosen-cases (λ v. v ≡ None) s asks found (λ _. refl)
   where
-    found : (k d : ℕ) → 1 ≤ k → k ≤ 3 → GoesBy s asks k → next_in s asks k ≡ At d → Of d (served s k d) ≡ Nobody
+    found : (k d : ℕ) → 1 ≤ k → k ≤ 3 → GoesBy s asks k → next_in s asks k ≡ Some d → to_channel d (served s k d) ≡ None
     found k d a b w n =
         let here : (d < 16) × (asks k d ≡ true) = found-holds 16 (begins s k) d (asks k) n in
         absurd (not-both here.1 (h k d record { channel = here.0; least = a; most = b }))
@@ -100,7 +101,7 @@ unready s asks c h =
     chosen-cases (λ v. goes_to c v ≡ false) (ticked s) asks
     (λ k d a b w n. ne_eqb c d (λ same. not-both (found-holds 16 (begins (ticked s) k) d (asks k) n).1 (rw same at (h k)))) (λ _. refl)
 
-pub sixteen : (s t : Slots) (asks : Asks) (c : ℕ) → chosen s asks ≡ Of c t → c < 16
+pub sixteen : (s t : Slots) (asks : Asks) (c : ℕ) → chosen s asks ≡ to_channel c t → c < 16
 sixteen s t asks c e = (turns s t asks c e).levels.channel
 
 pub words : (s : Slots) (a b : Asks) → ((level c : ℕ) → Levels level c → a level c ≡ b level c) → chosen s a ≡ chosen s b

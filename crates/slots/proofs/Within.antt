@@ -8,12 +8,11 @@ use mathlib.Core.Path.{◌≡◌, refl, sym, ap, subst, ◌∙◌}
 use lib.Dec.{eqb}
 use lib.ListN.{length}
 use borrow.Author.Tests.{eq-eqb, eqb-true, eqb-false}
+use Rattle.std.specs.Prelude.{Option, Some, None}
 use Rattle.words.proofs.ChoiceLaws.{not-both, pick-cases}
 use Rattle.slots.specs.declared.Slots.{Slots}
-use Rattle.slots.specs.declared.Found.TheVariants.{At, Nothing}
 use Rattle.slots.specs.declared.Service.{Service}
-use Rattle.slots.specs.declared.Service.TheVariants.{Of}
-use Rattle.slots.specs.Slots.{Asks, ticked, slot_level, begins, served, next_in, chosen}
+use Rattle.slots.specs.Slots.{to_channel, Asks, ticked, slot_level, begins, served, next_in, chosen}
 use Rattle.slots.specs.Claims.{Levels, goes_to, leaves, service_of, next, others_before, Waits, turn_of, home, before_home, patience, OneService}
 use Rattle.slots.proofs.SlotLaws.{FoundBy, each_level, begins-same, begins-other, slot-served, GoesBy, chosen-cases}
 use Rattle.slots.proofs.Turns as turns
@@ -82,11 +81,11 @@ module _ (s : Slots) (asks : Asks) (level c : ℕ) (l : Levels level c) (a : ask
   t = ticked s
 
   -- the slot goes to c, or leaves it less
-  abbrev Good : Service → Type 0
+  abbrev Good : Option Service → Type 0
   Good v = (goes_to c v ≡ true) ⊎ (suc (patience (leaves t v) level c) ≤ patience s level c)
 
   -- a service at its level, of c or of one that comes before it
-  own-level : (d : ℕ) → next_in t asks level ≡ At d → Good (Of d (served t level d))
+  own-level : (d : ℕ) → next_in t asks level ≡ Some d → Good (to_channel d (served t level d))
   unfolding goes_to leaves patience others_before begins ticked
   own-level d e =
       let b : ℕ = begins t level in
@@ -104,7 +103,7 @@ module _ (s : Slots) (asks : Asks) (level c : ℕ) (l : Levels level c) (a : ask
       (at-or-before r.place i r.sooner)
 
   -- a service at another level, in a slot that is not its own: its home slot is one nearer
-  other-level : (k d : ℕ) → 1 ≤ k → k ≤ 3 → k ≢ level → slot_level t.slot ≢ level → Good (Of d (served t k d))
+  other-level : (k d : ℕ) → 1 ≤ k → k ≤ 3 → k ≢ level → slot_level t.slot ≢ level → Good (to_channel d (served t k d))
   unfolding leaves patience before_home others_before begins ticked
   other-level k d p q n o =
       let h : (1 ≤ home level) × (home level ≤ 4) = home-bounds level in
@@ -114,7 +113,7 @@ module _ (s : Slots) (asks : Asks) (level c : ℕ) (l : Levels level c) (a : ask
       inr (rw (begins-other t k level d p q l.least l.most n, slot-served t k d) (omega arith))
 
   -- its level finds somebody
-  found_at : (k : ℕ) → next_in t asks k ≡ Nothing → k ≢ level
+  found_at : (k : ℕ) → next_in t asks k ≡ None → k ≢ level
   found_at k e same = not-both a (none_found t asks level (rw same at e) c l.channel)
 
   -- so that a service at another level comes in a slot that is not its own
@@ -124,11 +123,11 @@ module _ (s : Slots) (asks : Asks) (level c : ℕ) (l : Levels level c) (a : ask
   slot-good : Good (chosen t asks)
   slot-good = chosen-cases Good t asks at_level (λ none. absurd (found_at level (none level l.least l.most) refl))
     where
-      at_level : (k d : ℕ) → 1 ≤ k → k ≤ 3 → GoesBy t asks k → next_in t asks k ≡ At d → Good (Of d (served t k d))
+      at_level : (k d : ℕ) → 1 ≤ k → k ≤ 3 → GoesBy t asks k → next_in t asks k ≡ Some d → Good (to_channel d (served t k d))
       at_level k d p q w e = by (eqb k level) refl
         where
-          by : (b : Bool) → eqb k level ≡ b → Good (Of d (served t k d))
-          by true f = subst (λ j. next_in t asks j ≡ At d → Good (Of d (served t j d))) (sym (eqb-true k level f)) (own-level d) e
+          by : (b : Bool) → eqb k level ≡ b → Good (to_channel d (served t k d))
+          by true f = subst (λ j. next_in t asks j ≡ Some d → Good (to_channel d (served t j d))) (sym (eqb-true k level f)) (own-level d) e
           by false f = let n : k ≢ level = eqb-false k level f in other-level k d p q n (not_own k n w)
 
 -- ---- lists of slots

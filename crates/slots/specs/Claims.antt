@@ -1,12 +1,11 @@
 -- Paper 02, #107, of slots that stand in any way, whatever is ready: whom a slot goes to, and that a channel which stays ready, at one
 -- level other than 00, is passed over 111 times at most. Other channels may be ready or not and change their levels as they like, in
 -- every slot.
-use Rattle.std.specs.Prelude.{ℕ, suc, ◌+◌, ◌-◌, ◌*◌, ◌%◌, ◌≤◌, ◌<◌, Bool, true, false, List, [], ◌∷◌, ◌≢◌, ◌⊎◌, ◌≡◌, eqb, length}
+use Rattle.std.specs.Prelude.{ℕ, suc, ◌+◌, ◌-◌, ◌*◌, ◌%◌, ◌≤◌, ◌<◌, Bool, true, false, List, [], ◌∷◌, Option, Some, None, ◌≢◌, ◌⊎◌, ◌≡◌, eqb, length}
 use Rattle.words.specs.Choice.{pick}
 use Rattle.slots.specs.declared.Slots.{Slots}
 use Rattle.slots.specs.declared.Service.{Service}
-use Rattle.slots.specs.declared.Service.TheVariants.{Of, Nobody}
-use Rattle.slots.specs.Slots.{Asks, of_level, reset_slots, ticked, idled, slot_level, begins, chosen}
+use Rattle.slots.specs.Slots.{Asks, of_level, reset_slots, ticked, idled, slot_level, begins, to_channel, chosen}
 
 -- a level that is not 00, and a channel
 pub record Levels (level c : ℕ) : Type 0 where
@@ -16,16 +15,16 @@ pub record Levels (level c : ℕ) : Type 0 where
 
 -- ---- one slot
 
-unfoldable pub goes_to : ℕ → Service → Bool
-goes_to c (Of d s) = eqb c d
-goes_to c Nobody = false
+unfoldable pub goes_to : ℕ → Option Service → Bool
+goes_to c (Some v) = eqb c v.channel
+goes_to c None = false
 
-unfoldable pub leaves : Slots → Service → Slots
-leaves s (Of c t) = t
-leaves s Nobody = s
+unfoldable pub leaves : Slots → Option Service → Slots
+leaves s (Some v) = v.slots
+leaves s None = s
 
 -- whom the next tick serves, and how the slots stand after it
-unfoldable pub service_of : Slots → Asks → Service
+unfoldable pub service_of : Slots → Asks → Option Service
 service_of s asks = chosen (ticked s) asks
 
 unfoldable pub next : Slots → Asks → Slots
@@ -85,13 +84,13 @@ patience s level c = before_home s level + 7 * others_before s level c
 
 pub record OneService : Type 0 where
   -- a slot is served as #107 has it
-  pub turns : (s t : Slots) (asks : Asks) (c : ℕ) → chosen s asks ≡ Of c t → Turn s asks c t
+  pub turns : (s t : Slots) (asks : Asks) (c : ℕ) → chosen s asks ≡ to_channel c t → Turn s asks c t
   -- it goes to nobody only where nobody is ready, and there it does
-  pub idles : (s : Slots) (asks : Asks) → chosen s asks ≡ Nobody → (level c : ℕ) → Levels level c → asks level c ≡ false
-  pub nobody : (s : Slots) (asks : Asks) → ((level c : ℕ) → Levels level c → asks level c ≡ false) → chosen s asks ≡ Nobody
+  pub idles : (s : Slots) (asks : Asks) → chosen s asks ≡ None → (level c : ℕ) → Levels level c → asks level c ≡ false
+  pub nobody : (s : Slots) (asks : Asks) → ((level c : ℕ) → Levels level c → asks level c ≡ false) → chosen s asks ≡ None
   -- so a channel that is not ready is not served, and one that is served is one of sixteen
   pub unready : (s : Slots) (asks : Asks) (c : ℕ) → ((level : ℕ) → asks level c ≡ false) → goes_to c (service_of s asks) ≡ false
-  pub sixteen : (s t : Slots) (asks : Asks) (c : ℕ) → chosen s asks ≡ Of c t → c < 16
+  pub sixteen : (s t : Slots) (asks : Asks) (c : ℕ) → chosen s asks ≡ to_channel c t → c < 16
   -- only what sixteen channels ask at the three levels counts, so that three words say it
   pub words : (s : Slots) (a b : Asks) → ((level c : ℕ) → Levels level c → a level c ≡ b level c) → chosen s a ≡ chosen s b
   -- each tick is a slot, whether it is served or not

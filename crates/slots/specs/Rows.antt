@@ -1,11 +1,10 @@
 -- Slots of paper 02, #107, computed: whom they go to, each row with what it must show. The figures come from a model written apart from
 -- the definitions.
-use Rattle.std.specs.Prelude.{ℕ, zero, suc, ◌+◌, ◌%◌, Bool, false, ◌||◌, List, [], ◌∷◌, ◌≡◌, eqb}
+use Rattle.std.specs.Prelude.{ℕ, zero, suc, ◌+◌, ◌%◌, Bool, false, ◌||◌, List, [], ◌∷◌, ◌≡◌, eqb, Option, Some, None}
 use Rattle.words.specs.Choice.{pick}
 use Rattle.slots.specs.declared.Slots.{Slots}
 use Rattle.slots.specs.declared.Service.{Service}
-use Rattle.slots.specs.declared.Service.TheVariants.{Of, Nobody}
-use Rattle.slots.specs.Slots.{Asks, reset_slots, ticked, idled, slot_level}
+use Rattle.slots.specs.Slots.{Asks, reset_slots, to_channel, ticked, idled, slot_level}
 use Rattle.slots.specs.Claims.{service_of, next, turn_of}
 
 -- the levels of the next n slots
@@ -22,9 +21,9 @@ unfoldable pub ready : List ℕ → List ℕ → List ℕ → Asks
 ready high middle low level c = is_in c (pick (eqb level 3) high (pick (eqb level 2) middle (pick (eqb level 1) low [])))
 
 -- the channel, or 16 for nobody
-unfoldable pub channel_of : Service → ℕ
-channel_of (Of c s) = c
-channel_of Nobody = 16
+unfoldable pub channel_of : Option Service → ℕ
+channel_of (Some v) = v.channel
+channel_of None = 16
 
 -- whom the next n slots go to, the same channels being ready in all of them
 unfoldable pub go_to : ℕ → Slots → Asks → List ℕ
@@ -48,8 +47,8 @@ pub record SlotRows : Type 0 where
   -- at reset the last is 15: 0 comes first, and 15 last
   pub row_ends : go_to 4 reset_slots (ready (0 ∷ 15 ∷ []) [] []) ≡ 0 ∷ 15 ∷ 0 ∷ 15 ∷ []
   -- the low slot of tick 4 goes to high before middle, the high slot of tick 1 to middle before low; the last is that of the level served
-  pub row-handed : (service_of (idled 3 reset_slots) (ready (9 ∷ []) (2 ∷ []) []) ≡ Of 9 record { slot = 4; high = 10; middle = 0; low = 0 })
-      × (service_of reset_slots (ready [] (9 ∷ []) (2 ∷ [])) ≡ Of 9 record { slot = 1; high = 0; middle = 10; low = 0 })
+  pub row-handed : (service_of (idled 3 reset_slots) (ready (9 ∷ []) (2 ∷ []) []) ≡ to_channel 9 record { slot = 4; high = 10; middle = 0; low = 0 })
+      × (service_of reset_slots (ready [] (9 ∷ []) (2 ∷ [])) ≡ to_channel 9 record { slot = 1; high = 0; middle = 10; low = 0 })
   -- nothing ready: the slot goes on, and no last changes
   pub row-idle : next record { slot = 6; high = 3; middle = 4; low = 5 } (ready [] [] []) ≡ record { slot = 0; high = 3; middle = 4; low = 5 }
   -- 112 is no more than is needed: ready from tick 5 on, channel 15 gets the 112th slot, and none of 111

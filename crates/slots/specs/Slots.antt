@@ -1,17 +1,22 @@
 -- Paper 02, #107: whom the slot of a tick goes to. Level 3 is high (priority 11), 2 middle, 1 low.
-use Rattle.std.specs.Prelude.{ℕ, zero, suc, ◌+◌, ◌%◌, Bool, eqb}
+use Rattle.std.specs.Prelude.{ℕ, zero, suc, ◌+◌, ◌%◌, Bool, Option, Some, None, eqb}
 use Rattle.words.specs.Choice.{pick}
 use Rattle.words.specs.Field.{bit_of}
 use Rattle.slots.specs.declared.Slots.{Slots}
 use Rattle.slots.specs.declared.Ready.{Ready}
-use Rattle.slots.specs.declared.Found.{Found}
-use Rattle.slots.specs.declared.Found.TheVariants.{At, Nothing}
+use Rattle.slots.specs.declared.Level.{Level}
+use Rattle.slots.specs.declared.Level.TheVariants.{High, Middle, Low}
 use Rattle.slots.specs.declared.Service.{Service}
-use Rattle.slots.specs.declared.Service.TheVariants.{Of, Nobody}
 
 -- which channels are ready: level, then channel number
 abbrev pub Asks : Type 0
 Asks = ℕ → ℕ → Bool
+
+-- a level as the priority that it stands for
+abbrev pub level_number : Level → ℕ
+level_number High = 3
+level_number Middle = 2
+level_number Low = 1
 
 -- one of three numbers, by level
 abbrev pub of_level : ℕ → ℕ → ℕ → ℕ → ℕ
@@ -54,27 +59,31 @@ served s level c =
     record { slot = s.slot; high = s.high; middle = s.middle; low = above })
 
 -- the first of n numbers from c on, round from 15 to 0, of which f holds
-unfoldable pub found : ℕ → ℕ → (ℕ → Bool) → Found
-found zero c f = Nothing
-found (suc n) c f = pick (f (c % 16)) (At (c % 16)) (found n (suc c) f)
+unfoldable pub found : ℕ → ℕ → (ℕ → Bool) → Option ℕ
+found zero c f = None
+found (suc n) c f = pick (f (c % 16)) (Some (c % 16)) (found n (suc c) f)
 
 -- #107, the turn within a level: the first that is ready from the number above its last on, and at the end of the round that last itself
-abbrev pub next_in : Slots → Asks → ℕ → Found
+abbrev pub next_in : Slots → Asks → ℕ → Option ℕ
 next_in s asks level = found 16 (begins s level) (asks level)
 
 -- ---- whom a slot goes to
 
+-- a slot that goes to c, and leaves the slots t
+abbrev pub to_channel : ℕ → Slots → Option Service
+to_channel c t = Some record { channel = c; slots = t }
+
 -- to what was found at this level; if nothing was, to whom the rest says
-abbrev pub serves : Slots → ℕ → Found → Service → Service
-serves s level (At c) rest = Of c (served s level c)
-serves s level Nothing rest = rest
+abbrev pub serves : Slots → ℕ → Option ℕ → Option Service → Option Service
+serves s level (Some c) rest = to_channel c (served s level c)
+serves s level None rest = rest
 
 -- #107, a slot that is handed on: to high, else to middle, else to low
-unfoldable pub highest : Slots → Asks → Service
-highest s asks = serves s 3 (next_in s asks 3) (serves s 2 (next_in s asks 2) (serves s 1 (next_in s asks 1) Nobody))
+unfoldable pub highest : Slots → Asks → Option Service
+highest s asks = serves s 3 (next_in s asks 3) (serves s 2 (next_in s asks 2) (serves s 1 (next_in s asks 1) None))
 
 -- #107, a slot: to its own level, and where nothing is ready there it is handed on
-unfoldable pub chosen : Slots → Asks → Service
+unfoldable pub chosen : Slots → Asks → Option Service
 chosen s asks = serves s (slot_level s.slot) (next_in s asks (slot_level s.slot)) (highest s asks)
 
 -- ---- ready channels as three words

@@ -1,14 +1,22 @@
 // One service a tick, by priority: which of the channels that are ready a tick serves.
 #![tactic(auto)]
 
-ghost use Rattle.std.specs.Prelude.{◌≡◌};
+ghost use Rattle.std.specs.Prelude.{◌≡◌, None};
 ghost use Rattle.words.specs.Field.{bit_of};
 ghost use Rattle.slots.specs.Claims.{OneService};
 ghost use Rattle.slots.specs.Rows.{SlotRows};
-ghost use Rattle.slots.specs.Slots.{ticked, idled, slot_level, of_level, served, found, asked_in, next_in, highest, chosen};
+ghost use Rattle.slots.specs.Slots.{level_number, ticked, idled, slot_level, begins, served, found, ready_in, asked_in, next_in, serves, highest, chosen};
+
+// The levels of priority, of a channel and of a slot.
+#[derive(Clone, Copy, Debug, PartialEq, Eq)]
+pub enum Level {
+    High,
+    Middle,
+    Low,
+}
 
 // Where the slots stand, and where each level's next search begins.
-#[derive(Clone, Copy)]
+#[derive(Clone, Copy, Debug, PartialEq, Eq)]
 pub struct Slots {
     // ticks since reset, modulo 7
     pub slot: u16,
@@ -19,7 +27,7 @@ pub struct Slots {
 }
 
 // Which channels are ready: a word for each level, bit c for channel c.
-#[derive(Clone, Copy)]
+#[derive(Clone, Copy, Debug, PartialEq, Eq)]
 pub struct Ready {
     pub high: u16,
     pub middle: u16,
@@ -27,17 +35,10 @@ pub struct Ready {
 }
 
 // Whom a slot goes to, and how the slots stand after it.
-#[derive(Clone, Copy)]
-pub enum Service {
-    Of(u16, Slots),
-    Nobody,
-}
-
-// A channel number, or none.
-#[derive(Clone, Copy)]
-pub enum Found {
-    At(u16),
-    Nothing,
+#[derive(Clone, Copy, Debug, PartialEq, Eq)]
+pub struct Service {
+    pub channel: u16,
+    pub slots: Slots,
 }
 
 impl Slots {
@@ -50,6 +51,7 @@ impl Slots {
     };
 
     // One tick on. Reduced first, as below, so that no sum passes 16 bits.
+    #[tactic(auto, unfolding(crate::specs::Slots::ticked))]
     pub fn ticked(mut self) -> Slots
         ensures { result ≡ ticked self }
     {
@@ -58,6 +60,7 @@ impl Slots {
     }
 
     // So many ticks on, in which no channel is ready.
+    #[tactic(auto, unfolding(crate::specs::Slots::idled))]
     pub fn idled(mut self, n: u16) -> Slots
         ensures { result ≡ idled n self }
     {
@@ -65,105 +68,104 @@ impl Slots {
         self
     }
 
+    // Where the search of a level begins.
+    #[tactic(auto, unfolding(crate::specs::Slots::begins))]
+    fn begins(self, level: Level) -> u16
+        ensures { result ≡ begins self (level_number level) }
+    {
+        match level {
+            Level::High => self.high,
+            Level::Middle => self.middle,
+            Level::Low => self.low,
+        }
+    }
+
     // After the service of c at this level: c is its last.
-    fn served(mut self, level: u16, c: u16) -> Slots
-        ensures { result ≡ served self level c }
+    #[tactic(auto, unfolding(crate::specs::Slots::served))]
+    fn served(mut self, level: Level, c: u16) -> Slots
+        ensures { result ≡ served self (level_number level) c }
     {
         let above = (c % 16 + 1) % 16;
-        if level == 3 {
-            self.high = above;
-            return self;
+        match level {
+            Level::High => self.high = above,
+            Level::Middle => self.middle = above,
+            Level::Low => self.low = above,
         }
-        if level == 2 {
-            self.middle = above;
-            return self;
-        }
-        self.low = above;
         self
     }
+
+    // The service of the next channel of a level that is ready.
+    #[tactic(auto, unfolding(crate::specs::Slots::asked_in))]
+    fn next_at(self, ready: Ready, level: Level) -> Option<Service>
+        ensures { result ≡ serves self (level_number level) (next_in self (asked_in ready) (level_number level)) None }
+    {
+        let channel = first_from(ready.at(level), self.begins(level))?;
+        Some(Service {
+            channel,
+            slots: self.served(level, channel),
+        })
+    }
+
+    // A slot that is handed on: to the highest level that has somebody.
+    #[tactic(auto, unfolding(crate::specs::Slots::highest))]
+    fn highest(self, ready: Ready) -> Option<Service>
+        ensures { result ≡ highest self (asked_in ready) }
+    {
+        self.next_at(ready, Level::High)
+            .or_else(|| self.next_at(ready, Level::Middle))
+            .or_else(|| self.next_at(ready, Level::Low))
+    }
 }
 
-// The level of a slot, 3 for high: from reset high, middle, high, low, high, middle, high.
-fn slot_level(slot: u16) -> u16
-    ensures { result ≡ slot_level slot }
-{
-    if slot == 4 {
-        return 1;
+impl Ready {
+    // The channels that are ready at a level.
+    #[tactic(auto, unfolding(crate::specs::Slots::ready_in))]
+    fn at(self, level: Level) -> u16
+        ensures { result ≡ ready_in self (level_number level) }
+    {
+        match level {
+            Level::High => self.high,
+            Level::Middle => self.middle,
+            Level::Low => self.low,
+        }
     }
-    if slot == 2 {
-        return 2;
-    }
-    if slot == 6 {
-        return 2;
-    }
-    3
 }
 
-// One of three words, by level.
-fn of_level(level: u16, high: u16, middle: u16, low: u16) -> u16
-    ensures { result ≡ of_level level high middle low }
+// The level of a slot: from reset high, middle, high, low, high, middle, high.
+#[tactic(auto, unfolding(crate::specs::Slots::slot_level))]
+fn slot_level(slot: u16) -> Level
+    ensures { level_number result ≡ slot_level slot }
 {
-    if level == 3 {
-        return high;
+    match slot {
+        4 => Level::Low,
+        2 | 6 => Level::Middle,
+        _ => Level::High,
     }
-    if level == 2 {
-        return middle;
-    }
-    low
 }
 
 // The first bit of w that is set, from bit `from` on, round from 15 to 0: w is turned until that search begins at bit 0.
-fn first_from(w: u16, from: u16) -> Found
+fn first_from(w: u16, from: u16) -> Option<u16>
     ensures { result ≡ found 16 from (bit_of w) }
 {
     let turned = rotation::rotate(w, from);
     if turned == 0 {
-        return Found::Nothing;
+        return None;
     }
-    Found::At((from % 16 + (u16::trailing_zeros(turned) as u16)) % 16)
-}
-
-// The next ready channel of a level.
-fn next_in(s: Slots, w: Ready, level: u16) -> Found
-    ensures { result ≡ next_in s (asked_in w) level }
-{
-    let ready = of_level(level, w.high, w.middle, w.low);
-    let begins = of_level(level, s.high, s.middle, s.low);
-    first_from(ready, begins)
-}
-
-// A slot that is handed on: to the highest level that has somebody.
-fn highest(s: Slots, w: Ready) -> Service
-    ensures { result ≡ highest s (asked_in w) }
-{
-    let f = next_in(s, w, 3);
-    if let Found::At(c) = f {
-        return Service::Of(c, s.served(3, c));
-    }
-    let f = next_in(s, w, 2);
-    if let Found::At(c) = f {
-        return Service::Of(c, s.served(2, c));
-    }
-    let f = next_in(s, w, 1);
-    if let Found::At(c) = f {
-        return Service::Of(c, s.served(1, c));
-    }
-    Service::Nobody
+    Some((from % 16 + turned.trailing_zeros() as u16) % 16)
 }
 
 // Whom the slot goes to: its own level, and where nothing is ready there it is handed on.
-pub fn choose(s: Slots, w: Ready) -> Service
-    ensures { result ≡ chosen s (asked_in w) }
+#[tactic(auto, unfolding(crate::specs::Slots::chosen))]
+pub fn choose(slots: Slots, ready: Ready) -> Option<Service>
+    ensures { result ≡ chosen slots (asked_in ready) }
 {
-    let own = slot_level(s.slot);
-    let f = next_in(s, w, own);
-    if let Found::At(c) = f {
-        return Service::Of(c, s.served(own, c));
-    }
-    highest(s, w)
+    slots
+        .next_at(ready, slot_level(slots.slot))
+        .or_else(|| slots.highest(ready))
 }
 
-// Request #107 of one slot, its bound of 112, and rows of slots computed.
+// One slot and its bound of 112, and rows of slots computed.
 pub fn one_service()
-    ensures { OneService × SlotRows }
+    ensures claims { OneService }
+    ensures rows { SlotRows }
 {}

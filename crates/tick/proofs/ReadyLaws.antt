@@ -10,6 +10,7 @@ use lib.Count.{count_trailing_zeros}
 use lib.Dec.{eqb, ltb}
 use lib.Pow.{shr-shr}
 use borrow.Author.Tests.{eqb-true, eqb-false, ne_eqb, ltb-true, ltb-false}
+use Rattle.std.specs.Prelude.{Option}
 use Rattle.words.specs.Choice.{pick}
 use Rattle.words.specs.Field.{field, with_field, bit_of}
 use Rattle.words.proofs.ChoiceLaws.{not-both}
@@ -131,7 +132,7 @@ chosen-words s =
     one-service.words s.slots (asked_in (ready_below 16 s)) (asks_of s)
     (λ level c l. says s level l.least l.most c l.channel)
 
-pub picked : (s : State) (z : Slots) (v : Service) (w : Ready) → z ≡ s.slots → w ≡ ready_below 16 s → v ≡ chosen z (asked_in w)
+pub picked : (s : State) (z : Slots) (v : Option Service) (w : Ready) → z ≡ s.slots → w ≡ ready_below 16 s → v ≡ chosen z (asked_in w)
     → chosen s.slots (asks_of s) ≡ v
 picked s z v w d e f = sym (chosen-words s) ∙ ap (λ x. chosen s.slots (asked_in x)) (sym e) ∙ ap (λ x. chosen x (asked_in w)) (sym d) ∙ sym f
 

@@ -25,12 +25,6 @@ replicate-end : (n w : ℕ) → replicate n w ++ (w ∷ []) ≡ replicate (suc n
 replicate-end zero w = refl
 replicate-end (suc n) w = ap (λ l. w ∷ l) (replicate-end n w)
 
--- one place more of a list is filled
-pub fill-next : (old : List ℕ) (i w : ℕ) → i < length old → set (replicate i w ++ drop i old) i w ≡ replicate (i + 1) w ++ drop (i + 1) old
-fill-next old i w h =
-    rw (drop-cons old i 0 h, set_at (replicate i w) (get_or old i 0) (drop (suc i) old) w i (length-replicate i w), add-one)
-    (sym (append_assoc (replicate i w) (w ∷ []) (drop (suc i) old)) ∙ ap (λ l. l ++ drop (suc i) old) (replicate-end i w))
-
 -- the rest from i on comes back with k places done
 pub rest-done : (done more old l part : List ℕ) (i k : ℕ) → l ≡ done ++ drop i old → length done ≡ i → part ≡ more ++ drop k (take (length l - i) (drop i l)) → put_mid i (length l - i) l part ≡ (done ++ more) ++ drop (i + k) old
 rest-done done more old l part i k p n e =

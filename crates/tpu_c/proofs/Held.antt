@@ -1,12 +1,13 @@
 -- Words that hold the state which a call leaves are the words that are promised.
-use Prim.Native.Nat.{ℕ, ◌≤◌}
-use native.Mathlib.Nat.{le_of_eq}
-use mathlib.Core.Bool.{true, false}
-use mathlib.Core.List.{List, [], ◌++◌, append-nil}
+use Prim.Native.Nat.{ℕ}
+use mathlib.Core.Bool.{Bool, true, false}
+use mathlib.Core.List.{List}
 use mathlib.Core.Path.{◌≡◌, refl, sym, ap, ◌∙◌}
-use lib.ListN.{length, drop, replicate, drop_of_length-le}
+use lib.ListN.{length, replicate}
 use borrow.Author.Tests.{eq-eqb}
 use Rattle.words.proofs.ChoiceLaws.{pick-cases, not-both}
+use Rattle.words.specs.Field.{bit_value}
+use mir.Val.{bool_byte}
 use Rattle.unit.specs.declared.State.{State}
 use Rattle.unit.specs.declared.Answered.{Answered}
 use Rattle.unit.specs.TheUnit.{reset_state}
@@ -24,17 +25,14 @@ pub unpacked-whole : (s : List ℕ) → length s ≡ state_words → unpacked s 
 unfolding unpacked
 unpacked-whole s z = rw (whole s z)
 
-zeros-alone : replicate state_words 0 ++ [] ≡ zeros
-unfolding zeros
-zeros-alone = append-nil (replicate state_words 0)
-
 -- all words 0 hold the state after reset
-pub cleared : (s t : List ℕ) → length s ≡ state_words → t ≡ replicate state_words 0 ++ drop state_words s → t ≡ laid reset_state s
-unfolding laid
-cleared s t z e = rw (whole s z, reset-zeros) (e ∙ ap (λ (l : List ℕ). replicate state_words 0 ++ l) (drop_of_length-le s all) ∙ zeros-alone)
-  where
-    all : length s ≤ state_words
-    all = le_of_eq z
+pub cleared : (s t : List ℕ) → length s ≡ state_words → t ≡ replicate (length s) 0 → t ≡ laid reset_state s
+unfolding laid zeros
+cleared s t z e = rw (whole s z, reset-zeros) (e ∙ ap (λ n. replicate n 0) z)
+
+pub bit-number : (b : Bool) → bool_byte b ≡ bit_value b
+bit-number true = refl
+bit-number false = refl
 
 -- an advance that is not taken returns the state that it was given
 pub advance-keeps : (s : State) (n : ℕ) (lent : List ℕ) → is_taken (advance_of s n lent).answer ≡ false → (advance_of s n lent).state ≡ s

@@ -2,7 +2,6 @@
 #![tactic(auto)]
 
 ghost use Rattle.std.specs.Prelude.{◌≡◌, ◌<◌};
-ghost use Rattle.words.specs.Field.{bit_value};
 ghost use Rattle.unit.specs.TheUnit.{reset_state};
 ghost use Rattle.unit.specs.Answers.{reading_number, reading_word, answer_number};
 ghost use Rattle.tpu.specs.Refusals.{Refusals};
@@ -10,7 +9,7 @@ ghost use Rattle.pack.specs.Packing.{state_words, packed, zeros, laid, unpacked}
 ghost use Rattle.tpu_c.specs.Numbers.{reset_answer, read_answer, read_word, joined, write_answer, write_words, write_state, advance_answer, advance_words, advance_state, advance_pins, line_answer};
 
 use pack::layout;
-use unit::{Answer, Reading};
+use unit::Refusal;
 
 // The answer where the lent words are not as many as hold a state. No question of the gate has this number.
 const WRONG_LENGTH: u16 = 100;
@@ -26,78 +25,75 @@ pub extern "C" fn tpu_sm_state_words() -> u32
 // The words hold the state after reset, which is all zeros.
 #[unsafe(no_mangle)]
 pub extern "C" fn tpu_sm_reset(state: &mut [u16]) -> u16
-    ensures { (result ≡ reset_answer state.old)
-        × (state.new ≡ laid reset_state state.old)
-        × (packed reset_state ≡ zeros) }
+    ensures answer { result ≡ reset_answer state.old }
+    ensures words { state.new ≡ laid reset_state state.old }
+    ensures zeros { packed reset_state ≡ zeros }
 {
     if state.len() != layout::WORDS {
         return WRONG_LENGTH;
     }
-    ticks::fill(state, layout::WORDS, 0);
+    state.fill(0);
     0
 }
 
-fn both_halves(r: Reading) -> u32
-    ensures { (result ≡ joined (reading_number r) (reading_word r)) × (reading_word r < 65536) }
+#[tactic(auto, unfolding(unit::specs::Answers::reading_number, unit::specs::Answers::reading_word, crate::specs::Numbers::joined))]
+fn both_halves(r: Result<u16, Refusal>) -> u32
+    ensures halves { result ≡ joined (reading_number r) (reading_word r) }
+    ensures word { reading_word r < 65536 }
 {
     match r {
-        Reading::Word(w) => w as u32,
-        Reading::Refused(n) => n as u32 * 65536,
+        Ok(w) => u32::from(w),
+        Err(refusal) => u32::from(refusal.number()) * 65536,
     }
 }
 
 // The answer's number in the high half, 0 where the read is taken, and the word in the low half.
 #[unsafe(no_mangle)]
 pub extern "C" fn tpu_sm_read(state: &[u16], address: u16) -> u32
-    ensures { (result ≡ joined (read_answer state.now address) (read_word state.now address))
-        × (read_word state.now address < 65536) }
+    ensures halves { result ≡ joined (read_answer state.now address) (read_word state.now address) }
+    ensures word { read_word state.now address < 65536 }
 {
-    if state.len() != layout::WORDS {
+    let Some(words) = state.as_array() else {
         return WRONG_LENGTH as u32 * 65536;
-    }
-    both_halves(deeds::read(state, address))
+    };
+    both_halves(deeds::read(words, address))
 }
 
-fn number(a: Answer) -> u16
+#[tactic(auto, unfolding(unit::specs::Answers::answer_number))]
+fn number(a: Result<(), Refusal>) -> u16
     ensures { result ≡ answer_number a }
 {
     match a {
-        Answer::Taken => 0,
-        Answer::Refused(n) => n as u16,
+        Ok(()) => 0,
+        Err(refusal) => u16::from(refusal.number()),
     }
 }
 
 // 0 where the write is taken, else the number of the question that refused it.
 #[unsafe(no_mangle)]
 pub extern "C" fn tpu_sm_write(state: &mut [u16], address: u16, value: u16) -> u16
-    ensures { (result ≡ write_answer state.old address value)
-        × (state.new ≡ write_words state.old address value)
-        × (unpacked state.new ≡ write_state state.old address value) }
+    ensures answer { result ≡ write_answer state.old address value }
+    ensures words { state.new ≡ write_words state.old address value }
+    ensures state { unpacked state.new ≡ write_state state.old address value }
 {
-    if state.len() != layout::WORDS {
+    let Some(words) = state.as_mut_array() else {
         return WRONG_LENGTH;
-    }
-    number(deeds::write(state, address, value))
+    };
+    number(deeds::write(words, address, value))
 }
 
 // n ticks, the pin word after each in the first n words of the list. Refused: neither list changes.
 #[unsafe(no_mangle)]
 pub extern "C" fn tpu_sm_advance(state: &mut [u16], n: u32, pins: &mut [u16]) -> u16
-    ensures { (result ≡ advance_answer state.old n pins.old)
-        × (state.new ≡ advance_words state.old n pins.old)
-        × (unpacked state.new ≡ advance_state state.old n pins.old)
-        × (pins.new ≡ advance_pins state.old n pins.old) }
+    ensures answer { result ≡ advance_answer state.old n pins.old }
+    ensures words { state.new ≡ advance_words state.old n pins.old }
+    ensures state { unpacked state.new ≡ advance_state state.old n pins.old }
+    ensures pins { pins.new ≡ advance_pins state.old n pins.old }
 {
-    if state.len() != layout::WORDS {
+    let Some(words) = state.as_mut_array() else {
         return WRONG_LENGTH;
-    }
-    number(ticks::advance(state, n, pins))
-}
-
-fn bit_number(on: bool) -> u16
-    ensures { result ≡ bit_value on }
-{
-    if on { 1 } else { 0 }
+    };
+    number(ticks::advance(words, n, pins))
 }
 
 // 1 where the interrupt line is up.
@@ -105,10 +101,10 @@ fn bit_number(on: bool) -> u16
 pub extern "C" fn tpu_sm_interrupt_line(state: &[u16]) -> u16
     ensures { result ≡ line_answer state.now }
 {
-    if state.len() != layout::WORDS {
+    let Some(words) = state.as_array() else {
         return WRONG_LENGTH;
-    }
-    bit_number(deeds::interrupt_line(state))
+    };
+    u16::from(deeds::interrupt_line(words))
 }
 
 // About every answer: a refusal has the number of a question, so 0 means taken, and only the length gives 100.

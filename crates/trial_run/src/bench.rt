@@ -1,5 +1,5 @@
 // The board of the trials: channels 4 to 11 initialised, and a motor whose primary is channel 4. All of it by calls.
-use unit::{Answered, Reading, State};
+use unit::{Answered, State};
 
 pub const CIER: u16 = 0xE0A;
 
@@ -74,59 +74,73 @@ impl Setting {
 }
 
 pub fn put(s: State, address: u16, value: u16) -> State {
-    let r = tpu::write(s, address, value);
-    r.state
+    tpu::write(s, address, value).state
 }
 
-pub fn look(s: State, address: u16) -> u16 {
-    let r = tpu::read(s, address);
-    match r {
-        Reading::Word(w) => w,
-        Reading::Refused(_) => 0,
+// The words put one after another, each an address and a value.
+fn put_all(s: State, words: &[(u16, u16)]) -> State {
+    let mut t = s;
+    for (address, value) in words {
+        t = put(t, *address, *value);
     }
+    t
+}
+
+// The word at an address, 0 where the read is refused.
+pub fn look(s: State, address: u16) -> u16 {
+    tpu::read(s, address).unwrap_or(0)
 }
 
 // A tick for each of the eight channels.
 fn served(s: State) -> State {
     let mut lent = [0u16; 8];
-    let r = tpu::advance(s, 8, &mut lent);
-    r.state
+    tpu::advance(s, 8, &mut lent).state
 }
 
 // Reset, then functions and priorities of channels 4 to 11.
 fn enabled() -> State {
-    let s = put(tpu::reset(), CFSR1, 0xDDDD);
-    let s = put(s, CFSR2, 0xDDDD);
-    let s = put(s, CPR0, 0x0055);
-    put(s, CPR1, 0x5500)
+    let words = [
+        (CFSR1, 0xDDDD),
+        (CFSR2, 0xDDDD),
+        (CPR0, 0x0055),
+        (CPR1, 0x5500),
+    ];
+    put_all(tpu::reset(), &words)
 }
 
 // The patterns of two neighbours, opposite to each other; `by` is how far the lower lies above channel 4.
 fn wound(s: State, by: u16) -> State {
     let at = 16 * (by % 8);
-    let s = put(s, PIN_CONTROL + at, 0xCCCC);
-    let s = put(s, CHANNEL_CONTROL + at, 0x0081);
-    let s = put(s, PIN_CONTROL + 16 + at, 0x3333);
-    put(s, CHANNEL_CONTROL + 16 + at, 0x0082)
+    let words = [
+        (PIN_CONTROL + at, 0xCCCC),
+        (CHANNEL_CONTROL + at, 0x0081),
+        (PIN_CONTROL + 16 + at, 0x3333),
+        (CHANNEL_CONTROL + 16 + at, 0x0082),
+    ];
+    put_all(s, &words)
 }
 
 // Initialised, with the status bits of that cleared again.
 fn board() -> State {
-    let s = wound(wound(enabled(), 0), 2);
-    let s = wound(wound(s, 4), 6);
-    let s = put(s, HSRR0, 0x00AA);
-    let s = put(s, HSRR1, 0xAA00);
-    put(served(s), CISR, 0)
+    let mut s = enabled();
+    for by in [0, 2, 4, 6] {
+        s = wound(s, by);
+    }
+    let asked = put_all(s, &[(HSRR0, 0x00AA), (HSRR1, 0xAA00)]);
+    put(served(asked), CISR, 0)
 }
 
 // All that a trial sets, at rest.
 pub fn ready(m: Setting) -> State {
-    let s = put(board(), POSITION, m.from);
-    let s = put(s, TARGET, m.to);
-    let s = put(s, RATE, 1);
-    let s = put(s, GROUP, m.group());
-    let s = put(s, STEP_CNTL0, m.cntl0);
-    put(s, STEP_CNTL1, m.cntl1)
+    let words = [
+        (POSITION, m.from),
+        (TARGET, m.to),
+        (RATE, 1),
+        (GROUP, m.group()),
+        (STEP_CNTL0, m.cntl0),
+        (STEP_CNTL1, m.cntl1),
+    ];
+    put_all(board(), &words)
 }
 
 pub fn request(s: State) -> Answered {
@@ -135,7 +149,6 @@ pub fn request(s: State) -> Answered {
 
 // The answer to an initialise request of channel 4 with these two words.
 pub fn initialise(pattern: u16, control: u16) -> Answered {
-    let s = put(enabled(), PIN_CONTROL, pattern);
-    let s = put(s, CHANNEL_CONTROL, control);
-    tpu::write(s, HSRR1, 0x0200)
+    let words = [(PIN_CONTROL, pattern), (CHANNEL_CONTROL, control)];
+    tpu::write(put_all(enabled(), &words), HSRR1, 0x0200)
 }

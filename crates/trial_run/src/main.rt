@@ -1,5 +1,5 @@
-// Runs the trials of document 01 over the calls of the timer unit and prints what they measure, a line a trial.
-// The expected lines, beside this folder in `stdout`, are worked out by hand from that document and #103 and #107 of paper 02.
+// Runs the trials of the motors' rules over the calls of the timer unit and prints what they measure, a line a trial.
+// The expected lines, beside this folder in `stdout`, are worked out by hand from those rules.
 #![tactic(auto)]
 
 mod bench;
@@ -8,6 +8,7 @@ mod show;
 
 use bench::Setting;
 use run::Run;
+use show::{Read, Taken};
 use std::io;
 use unit::State;
 
@@ -15,200 +16,157 @@ fn main(rt: HostRuntime) -> io::Result<()> {
     listing(&rt)?;
     ramps(&rt)?;
     moves(&rt)?;
+    patterns(&rt)?;
     clocks(&rt)?;
     requests(&rt)?;
     while_stepping(&rt)?;
-    interrupt(&rt, 0x0010)?;
-    interrupt(&rt, 0x0000)
+    interrupts(&rt)
 }
 
 // The script program's three lines, by the calls that they stand for.
 fn listing(rt: &impl Print) -> io::Result<()> {
     let w = tpu::write(tpu::reset(), 0xE01, 0);
-    show::text(rt, b"W E01 0000")?;
-    show::answer(rt, w)?;
-    show::text(rt, b"R E20")?;
-    show::reading(rt, tpu::read(w.state, bench::CISR))?;
-    show::text(rt, b"T 2")?;
+    println!(rt; "W E01 0000: {}", Taken(w.answer))?;
+    let word = tpu::read(w.state, bench::CISR);
+    println!(rt; "R E20: {}", Read(word))?;
     let mut lent = [0u16; 2];
-    show::answer(rt, tpu::advance(w.state, 2, &mut lent))
+    let t = tpu::advance(w.state, 2, &mut lent);
+    println!(rt; "T 2: {}", Taken(t.answer))
 }
 
-// The ends of questions 8 and 14, and each ramp driven to its top rate both ways.
+// The ends of the questions on ramps, and each ramp driven to its top rate both ways: the first steps of a long move, one for each rate.
 fn ramps(rt: &impl Print) -> io::Result<()> {
-    ramp(rt, 20, 208, 3)?;
-    ramp(rt, 20, 207, 3)?;
-    ramp(rt, 20, 81, 3)?;
-    ramp(rt, 20, 80, 3)?;
-    ramp(rt, 0, 32767, 3)?;
-    ramp(rt, 0, 32768, 3)?;
-    ramp(rt, 20, 440, 10)?;
-    ramp(rt, 77, 3487, 14)?;
-    periods(rt, 20, 440, 10, 0, 60)?;
-    periods(rt, 20, 440, 10, 60, 0)?;
-    periods(rt, 77, 3487, 14, 0, 60)?;
-    periods(rt, 77, 3487, 14, 60, 0)?;
-    periods(rt, 20, 208, 3, 0, 60)?;
-    periods(rt, 0, 32767, 1, 0, 60)
+    for (cntl0, cntl1, top) in [
+        (20, 208, 3),
+        (20, 207, 3),
+        (20, 81, 3),
+        (20, 80, 3),
+        (0, 32767, 3),
+        (0, 32768, 3),
+        (20, 440, 10),
+        (77, 3487, 14),
+    ] {
+        let m = Setting::new(cntl0, cntl1, top, 0, 0);
+        let w = bench::request(bench::ready(m));
+        println!(rt; "ramp {cntl0} {cntl1} top {top}: {}", Taken(w.answer))?;
+    }
+    for (cntl0, cntl1, top, from, to) in [
+        (20, 440, 10, 0, 60),
+        (20, 440, 10, 60, 0),
+        (77, 3487, 14, 0, 60),
+        (77, 3487, 14, 60, 0),
+        (20, 208, 3, 0, 60),
+        (0, 32767, 1, 0, 60),
+    ] {
+        print!(rt; "ramp {cntl0} {cntl1} top {top}, {from} to {to}:")?;
+        let m = Setting::new(cntl0, cntl1, top, from, to);
+        Run::begun(m).steps(rt, top)?;
+        println!(rt; "")?;
+    }
+    Ok(())
 }
 
-fn ramp_name(rt: &impl Print, cntl0: u16, cntl1: u16, top: u16) -> io::Result<()> {
-    show::named(rt, b"ramp", cntl0)?;
-    show::number(rt, cntl1)?;
-    show::named(rt, b" top", top)
-}
-
-fn ramp(rt: &impl Print, cntl0: u16, cntl1: u16, top: u16) -> io::Result<()> {
-    ramp_name(rt, cntl0, cntl1, top)?;
-    let m = Setting::new(cntl0, cntl1, top, 0, 0);
-    show::answer(rt, bench::request(bench::ready(m)))
-}
-
-// The first steps of a long move, one for each rate.
-fn periods(
-    rt: &impl Print,
-    cntl0: u16,
-    cntl1: u16,
-    top: u16,
-    from: u16,
-    to: u16,
-) -> io::Result<()> {
-    ramp_name(rt, cntl0, cntl1, top)?;
-    show::route(rt, b",", from, to)?;
-    let m = Setting::new(cntl0, cntl1, top, from, to);
-    run::steps(rt, run::begun(m), top)?;
-    show::end(rt)
-}
-
-// Both ways each: whole moves, a target behind the motor, TCR1 passing its end, and the pattern turned by the steps.
+// Both ways each: whole moves, a target behind the motor, and TCR1 passing its end.
 fn moves(rt: &impl Print) -> io::Result<()> {
-    travel(rt, 0, 10)?;
-    travel(rt, 0, 3)?;
-    travel(rt, 0, 2)?;
-    travel(rt, 0, 0)?;
-    travel(rt, 10, 0)?;
-    travel(rt, 3, 0)?;
-    travel(rt, 2, 0)?;
-    back(rt, 0, 10, 1)?;
-    back(rt, 10, 0, 9)?;
-    wrap(rt, 0, 3)?;
-    wrap(rt, 3, 0)?;
-    turned(rt, 0, 4)?;
-    turned(rt, 4, 0)
-}
-
-fn travel(rt: &impl Print, from: u16, to: u16) -> io::Result<()> {
-    show::route(rt, b"move", from, to)?;
-    run::arrival(rt, run::begun(Setting::travel(from, to)))
+    for (from, to) in [(0, 10), (0, 3), (0, 2), (0, 0), (10, 0), (3, 0), (2, 0)] {
+        print!(rt; "move {from} to {to}:")?;
+        Run::begun(Setting::travel(from, to)).arrival(rt)?;
+    }
+    for (from, to, then) in [(0, 10, 1), (10, 0, 9)] {
+        back(rt, from, to, then)?;
+    }
+    for (from, to) in [(0, 3), (3, 0)] {
+        // the motor rests until TCR1 is near $FFFF
+        let r = Run::asked(bench::ready(Setting::travel(from, to)), 65018);
+        print!(rt;
+            "wrap from TCR1 ${:04X}, {from} to {to}:",
+            r.state.timers.tcr1
+        )?;
+        r.arrival(rt)?;
+    }
+    Ok(())
 }
 
 // While the motor is fast, after tick 781, the target becomes `then`.
 fn back(rt: &impl Print, from: u16, to: u16, then: u16) -> io::Result<()> {
-    show::route(rt, b"back", from, to)?;
-    let r = run::after(run::begun(Setting::travel(from, to)), 781);
-    reached(rt, r)?;
-    show::named(rt, b", target", then)?;
-    show::colon(rt)?;
-    run::arrival(rt, run::with_target(r, then))
+    let r = Run::begun(Setting::travel(from, to)).after(781);
+    let tick = r.tick;
+    let position = r.position();
+    let rate = bitfield::nibble(bench::look(r.state, bench::RATE), 0);
+    print!(rt; "back {from} to {to}: tick {tick} at {position} rate {rate}, target {then}:")?;
+    r.with_target(then).arrival(rt)
 }
 
-fn reached(rt: &impl Print, r: Run) -> io::Result<()> {
-    show::named(rt, b" tick", r.tick)?;
-    show::named(rt, b" at", run::position(r))?;
-    let rates = bench::look(r.state, bench::RATE);
-    show::named(rt, b" rate", bitfield::nibble(rates, 0))
-}
-
-// The motor rests until TCR1 is near $FFFF.
-fn wrap(rt: &impl Print, from: u16, to: u16) -> io::Result<()> {
-    let r = run::asked(bench::ready(Setting::travel(from, to)), 65018);
-    show::named_word(rt, b"wrap from TCR1", r.state.timers.tcr1)?;
-    show::route(rt, b",", from, to)?;
-    run::arrival(rt, r)
-}
-
-fn turned(rt: &impl Print, from: u16, to: u16) -> io::Result<()> {
-    show::route(rt, b"levels of $CCCC,", from, to)?;
-    let r = level(rt, level(rt, run::begun(Setting::travel(from, to)))?)?;
-    level(rt, level(rt, level(rt, r)?)?)?;
-    show::end(rt)
-}
-
-// MOD_CNT and bit 15 of CHANNEL_CONTROL, then on to the next step.
-fn level(rt: &impl Print, r: Run) -> io::Result<Run> {
-    let count = bitfield::nibble(bench::look(r.state, bench::RATE), 2);
-    let control = bench::look(r.state, bench::CHANNEL_CONTROL);
-    show::pair(rt, count, control >> 15)?;
-    Ok(run::onward(r))
+// The pattern turned by the steps, both ways: MOD_CNT and bit 15 of CHANNEL_CONTROL, before the first step and after each.
+fn patterns(rt: &impl Print) -> io::Result<()> {
+    for (from, to) in [(0, 4), (4, 0)] {
+        print!(rt; "levels of $CCCC, {from} to {to}:")?;
+        let mut r = Run::begun(Setting::travel(from, to));
+        for _ in 0..5 {
+            let count = bitfield::nibble(bench::look(r.state, bench::RATE), 2);
+            let control = bench::look(r.state, bench::CHANNEL_CONTROL);
+            print!(rt; " {count}:{}", control >> 15)?;
+            r = r.onward();
+        }
+        println!(rt; "")?;
+    }
+    Ok(())
 }
 
 fn clocks(rt: &impl Print) -> io::Result<()> {
-    due(rt, 3, 0xFFFE)?;
-    due(rt, 3, 0x8004)?;
-    due(rt, 3, 0x8003)
-}
-
-fn due(rt: &impl Print, now: u16, time: u16) -> io::Result<()> {
-    show::named_word(rt, b"due at TCR1", now)?;
-    show::named_word(rt, b" match", time)?;
-    show::colon(rt)?;
-    let p = clock::past(now, time);
-    show::either(rt, p.due, b" yes", b" no")?;
-    show::end(rt)
+    for (now, time) in [(3, 0xFFFE), (3, 0x8004), (3, 0x8003)] {
+        let p = clock::past(now, time);
+        let due = if p.due { "yes" } else { "no" };
+        println!(rt; "due at TCR1 ${now:04X} match ${time:04X}: {due}")?;
+    }
+    Ok(())
 }
 
 // What the questions say to requests at the edges of their ranges.
 fn requests(rt: &impl Print) -> io::Result<()> {
-    target(rt, 0xFFFC)?;
-    target(rt, 0xFFFD)?;
-    last(rt, 5)?;
-    last(rt, 11)?;
-    last(rt, 4)?;
-    last(rt, 12)?;
-    initialise(rt, 0xCCCC, 0x0081)?;
-    initialise(rt, 0xCCCC, 0x0082)?;
-    initialise(rt, 0xCCCC, 0x00A1)
-}
-
-fn target(rt: &impl Print, to: u16) -> io::Result<()> {
-    show::named_word(rt, b"target", to)?;
-    show::answer(rt, bench::request(bench::ready(Setting::travel(0, to))))
-}
-
-fn last(rt: &impl Print, channel: u16) -> io::Result<()> {
-    show::named(rt, b"last channel", channel)?;
-    let m = Setting::travel(0, 10).with_last(channel);
-    show::answer(rt, bench::request(bench::ready(m)))
-}
-
-fn initialise(rt: &impl Print, pattern: u16, control: u16) -> io::Result<()> {
-    show::named_word(rt, b"initialise PIN_CONTROL", pattern)?;
-    show::named_word(rt, b" CHANNEL_CONTROL", control)?;
-    show::answer(rt, bench::initialise(pattern, control))
+    for to in [0xFFFC, 0xFFFD] {
+        let w = bench::request(bench::ready(Setting::travel(0, to)));
+        println!(rt; "target ${to:04X}: {}", Taken(w.answer))?;
+    }
+    for channel in [5, 11, 4, 12] {
+        let m = Setting::travel(0, 10).with_last(channel);
+        let w = bench::request(bench::ready(m));
+        println!(rt; "last channel {channel}: {}", Taken(w.answer))?;
+    }
+    for (pattern, control) in [(0xCCCC, 0x0081), (0xCCCC, 0x0082), (0xCCCC, 0x00A1)] {
+        let w = bench::initialise(pattern, control);
+        let shown = Taken(w.answer);
+        println!(rt;
+            "initialise PIN_CONTROL ${pattern:04X} CHANNEL_CONTROL ${control:04X}: {shown}"
+        )?;
+    }
+    Ok(())
 }
 
 fn while_stepping(rt: &impl Print) -> io::Result<()> {
-    let r = run::after(run::begun(Setting::travel(0, 10)), 1);
-    show::text(rt, b"while stepping, word 5")?;
-    show::answer(rt, tpu::write(r.state, bench::GROUP, 0x0305))?;
-    show::text(rt, b"while stepping, target 5")?;
-    show::answer(rt, tpu::write(r.state, bench::TARGET, 5))
+    let r = Run::begun(Setting::travel(0, 10)).after(1);
+    let w = tpu::write(r.state, bench::GROUP, 0x0305);
+    println!(rt; "while stepping, word 5: {}", Taken(w.answer))?;
+    let w = tpu::write(r.state, bench::TARGET, 5);
+    println!(rt; "while stepping, target 5: {}", Taken(w.answer))
 }
 
 // The line at rest, at the request, after the arrival, and after the status bit is cleared.
-fn interrupt(rt: &impl Print, enable: u16) -> io::Result<()> {
-    show::named_word(rt, b"interrupt CIER", enable)?;
-    show::colon(rt)?;
-    let s = bench::put(bench::ready(Setting::travel(0, 2)), bench::CIER, enable);
-    signal(rt, s)?;
-    let r = run::asked(s, 1);
-    signal(rt, r.state)?;
-    let end = run::after(r, 801);
-    signal(rt, end.state)?;
-    signal(rt, bench::put(end.state, bench::CISR, 0))?;
-    show::end(rt)
+fn interrupts(rt: &impl Print) -> io::Result<()> {
+    for enable in [0x0010, 0x0000] {
+        let s = bench::put(bench::ready(Setting::travel(0, 2)), bench::CIER, enable);
+        let r = Run::asked(s, 1);
+        let end = r.after(801);
+        let cleared = bench::put(end.state, bench::CISR, 0);
+        print!(rt; "interrupt CIER ${enable:04X}:")?;
+        for t in [s, r.state, end.state, cleared] {
+            print!(rt; " {}", up_or_down(t))?;
+        }
+        println!(rt; "")?;
+    }
+    Ok(())
 }
 
-fn signal(rt: &impl Print, s: State) -> io::Result<()> {
-    show::either(rt, tpu::interrupt_line(s), b" up", b" down")
+fn up_or_down(s: State) -> &'static str {
+    if tpu::interrupt_line(s) { "up" } else { "down" }
 }

@@ -8,12 +8,12 @@ use mathlib.Core.Logic.{◌≢◌, ⊎_elim}
 use lib.Dec.{eqb}
 use lib.ListN.{length}
 use borrow.Author.Tests.{eqb-true, eqb-false}
+use Rattle.std.specs.Prelude.{Option, Some, None}
 use Rattle.words.specs.Choice.{pick}
 use Rattle.words.specs.Clock.{since, due, time_by}
 use Rattle.words.proofs.ChoiceLaws.{pick-cases}
 use Rattle.slots.specs.declared.Slots.{Slots}
 use Rattle.slots.specs.declared.Service.{Service}
-use Rattle.slots.specs.declared.Service.TheVariants.{Of, Nobody}
 use Rattle.slots.specs.Claims.{goes_to}
 use Rattle.motor.specs.declared.Phase.{Phase}
 use Rattle.motor.specs.declared.Phase.TheVariants.{Resting, Requested, Armed, Matched}
@@ -178,6 +178,6 @@ module _ (c : ℕ) (h : c < 16) (s : State) (z : Sized s) where
       to d u true e = subst (λ i. (channel (served i (with_slots (matches s) u)) c).late ≡ late_by (happened now (channel s c).phase) now (channel s c).late) (eqb-true c d e) (own u)
       to d u false e = others d u (eqb-false c d e)
 
-      by : (v : Service) → (channel (slot_served v (matches s)) c).late ≡ pick (goes_to c v) (late_by (happened now (channel s c).phase) now (channel s c).late) (channel s c).late
-      by (Of d u) = to d u (eqb c d) refl
-      by Nobody = number
+      by : (v : Option Service) → (channel (slot_served v (matches s)) c).late ≡ pick (goes_to c v) (late_by (happened now (channel s c).phase) now (channel s c).late) (channel s c).late
+      by (Some v) = to v.channel v.slots (eqb c v.channel) refl
+      by None = number

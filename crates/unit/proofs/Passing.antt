@@ -6,13 +6,13 @@ use mathlib.Core.Logic.{◌≢◌}
 use mathlib.Core.Path.{◌≡◌, refl, sym, ap, ◌∙◌}
 use lib.Dec.{eqb}
 use lib.ListN.{get_or, length, length-set}
+use Rattle.std.specs.Prelude.{Option, Some, None}
 use Rattle.words.specs.declared.Timers.{Timers}
 use Rattle.words.specs.Clock.{due, later, time_by, onward}
 use Rattle.words.proofs.ChoiceLaws.{pick-cases}
 use Rattle.words.proofs.ClockLaws.{onward-add}
 use Rattle.slots.specs.declared.Slots.{Slots}
 use Rattle.slots.specs.declared.Service.{Service}
-use Rattle.slots.specs.declared.Service.TheVariants.{Of, Nobody}
 use Rattle.slots.specs.Slots.{ticked}
 use Rattle.slots.proofs.Within.{one-service}
 use Rattle.motor.specs.declared.Way.{Way}
@@ -240,9 +240,9 @@ passed : (s : State) → Passed s (tick s)
 unfolding tick slot_served service_in
 passed s = by (service_in s) refl
   where
-    by : (v : Service) → service_in s ≡ v → Passed s (slot_served v (matches s))
-    by (Of c u) e = passed-served s (matches s) c u (one-service.turns (matches s).slots u (asks_of (matches s)) c e).slot (begun s)
-    by Nobody e = begun s
+    by : (v : Option Service) → service_in s ≡ v → Passed s (slot_served v (matches s))
+    by (Some v) e = passed-served s (matches s) v.channel v.slots (one-service.turns (matches s).slots v.slots (asks_of (matches s)) v.channel e).slot (begun s)
+    by None e = begun s
 
 -- the time of the group of c after the next tick
 abbrev pub time_next : State → ℕ → ℕ

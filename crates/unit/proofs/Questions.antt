@@ -17,12 +17,14 @@ use Rattle.words.proofs.FieldLaws.{field_lt, words-equal}
 use Rattle.words.proofs.RotationLaws.{right-bit, right-fits}
 use Rattle.motor.specs.Stepping.{period}
 use Rattle.unit.specs.declared.State.{State}
-use Rattle.unit.specs.declared.Answer.TheVariants.{Taken, Refused}
-use Rattle.unit.specs.declared.Answer.{Answer}
 use Rattle.unit.specs.TheUnit.{all, cfsr_of, hsrr_of, function, request, channel, word, channel_control, pin_control, target, mod_count, next_rate, top, last, cntl0, cntl1, size, stepping, is_bound}
 use Rattle.unit.specs.Gate.{is_free, is_stepper, is_timed, may_initialise, otherwise_zero, span_good, is_ready, group_ready, shows_pattern, pattern_good, ramp_good, quick_good, target_good, requested, Asked, Yes, No, ask_initialise, ask_step}
 use Rattle.unit.specs.Takes.{Free, Stepper, MayInitialise, Member, MayStep, MayRepeat}
 use Rattle.unit.proofs.Tests.{and_both, not_yes, all_yes, or_left, or_right, or-none}
+use Rattle.std.specs.Prelude.{Err, Ok}
+use Rattle.unit.specs.Refusals.{Answer}
+use Rattle.unit.specs.declared.Refusal.TheVariants.{GroupNotReady, NotFree, OtherFunction, TargetTooFar, TooFast, WrongControl, WrongPattern, WrongRamp, WrongSpan}
+use Rattle.unit.specs.declared.Refusal.{Refusal}
 
 not-no : {b : Bool} → b ≡ false → not b ≡ true
 not-no e = rw e refl
@@ -43,8 +45,8 @@ is_yes (Yes w) = true
 is_yes (No n) = false
 
 unfoldable pub answer_of : Asked → Answer
-answer_of (Yes w) = Taken
-answer_of (No n) = Refused n
+answer_of (Yes w) = Ok tt
+answer_of (No n) = Err n
 
 -- ---- question 4
 
@@ -81,17 +83,17 @@ initialise-good c s x = and_both (is-either (field 4 (word s c 0) 5) 4 7 x.timed
 
 -- ---- questions in sequence
 
-ask-first : (q : Bool) (n : ℕ) (k : Asked) → is_yes (ask q (No n) k) ≡ true → q ≡ true
+ask-first : (q : Bool) (n : Refusal) (k : Asked) → is_yes (ask q (No n) k) ≡ true → q ≡ true
 unfolding ask is_yes
 ask-first true n k e = refl
 ask-first false n k e = absurd (not-both e refl)
 
-ask-rest : (q : Bool) (n : ℕ) (k : Asked) → is_yes (ask q (No n) k) ≡ true → is_yes k ≡ true
+ask-rest : (q : Bool) (n : Refusal) (k : Asked) → is_yes (ask q (No n) k) ≡ true → is_yes k ≡ true
 unfolding ask is_yes
 ask-rest true n k e = e
 ask-rest false n k e = absurd (not-both e refl)
 
-pub yes-asks : (q : Bool) (w : State) → is_yes (ask q (No 3) (Yes w)) ≡ q
+pub yes-asks : (q : Bool) (w : State) → is_yes (ask q (No OtherFunction) (Yes w)) ≡ q
 unfolding ask is_yes
 yes-asks true w = refl
 yes-asks false w = refl
@@ -123,8 +125,8 @@ is-still j s u = (or-none (stepping s j) _ u).0
 pub initialise-asks : (c : ℕ) (s : State) → is_yes (ask_initialise s c) ≡ true → MayInitialise c s
 unfolding ask_initialise
 initialise-asks c s e =
-    let e3 : is_yes (ask (is_stepper s c) (No 3) (ask (may_initialise s c) (No 4) (Yes (requested s c 2)))) ≡ true = ask-rest (is_free s c) 2 _ e in
-    may (free-is c s (ask-first (is_free s c) 2 _ e)) (stepper-is c s (ask-first (is_stepper s c) 3 _ e3)) (ask-first (may_initialise s c) 4 _ (ask-rest (is_stepper s c) 3 _ e3))
+    let e3 : is_yes (ask (is_stepper s c) (No OtherFunction) (ask (may_initialise s c) (No WrongControl) (Yes (requested s c 2)))) ≡ true = ask-rest (is_free s c) _ _ e in
+    may (free-is c s (ask-first (is_free s c) _ _ e)) (stepper-is c s (ask-first (is_stepper s c) _ _ e3)) (ask-first (may_initialise s c) _ _ (ask-rest (is_stepper s c) _ _ e3))
   where
     may : Free c s → Stepper c s → may_initialise s c ≡ true → MayInitialise c s
     may f t q = initialise-may c s f t q
@@ -206,23 +208,23 @@ module _ (c : ℕ) (s : State) (words : (k : ℕ) → get_or s.words k 0 ≤ 0xf
     where
       Rest : Asked
       Rest =
-          ask (is_free s c) (No 2) (ask (is_stepper s c) (No 3) (ask (span_good s c) (No 5) (ask (group_ready s c) (No 6) (ask (pattern_good s c) (No 7)
-          (ask (ramp_good (cntl0 s c) (cntl1 s c) (top s c)) (No 8) (ask (quick_good (cntl0 s c) (cntl1 s c) (top s c)) (No 14)
-          (ask (target_good s c (target s c)) (No 9) (Yes (requested s c 3)))))))))
+          ask (is_free s c) (No NotFree) (ask (is_stepper s c) (No OtherFunction) (ask (span_good s c) (No WrongSpan) (ask (group_ready s c) (No GroupNotReady) (ask (pattern_good s c) (No WrongPattern)
+          (ask (ramp_good (cntl0 s c) (cntl1 s c) (top s c)) (No WrongRamp) (ask (quick_good (cntl0 s c) (cntl1 s c) (top s c)) (No TooFast)
+          (ask (target_good s c (target s c)) (No TargetTooFar) (Yes (requested s c 3)))))))))
 
       rest : is_yes Rest ≡ true → MayStep c s
       rest e2 =
-          let e3 = ask-rest (is_free s c) 2 _ e2 in
-          let e5 = ask-rest (is_stepper s c) 3 _ e3 in
-          let e6 = ask-rest (span_good s c) 5 _ e5 in
-          let e7 = ask-rest (group_ready s c) 6 _ e6 in
-          let e8 = ask-rest (pattern_good s c) 7 _ e7 in
-          let e14 = ask-rest (ramp_good (cntl0 s c) (cntl1 s c) (top s c)) 8 _ e8 in
-          let e9 = ask-rest (quick_good (cntl0 s c) (cntl1 s c) (top s c)) 14 _ e14 in
-          step-may (ask-first (span_good s c) 5 _ e5) (ask-first (group_ready s c) 6 _ e6) (ask-first (pattern_good s c) 7 _ e7) (ask-first (ramp_good (cntl0 s c) (cntl1 s c) (top s c)) 8 _ e8)
-          (ask-first (quick_good (cntl0 s c) (cntl1 s c) (top s c)) 14 _ e14) (ask-first (target_good s c (target s c)) 9 _ e9)
+          let e3 = ask-rest (is_free s c) _ _ e2 in
+          let e5 = ask-rest (is_stepper s c) _ _ e3 in
+          let e6 = ask-rest (span_good s c) _ _ e5 in
+          let e7 = ask-rest (group_ready s c) _ _ e6 in
+          let e8 = ask-rest (pattern_good s c) _ _ e7 in
+          let e14 = ask-rest (ramp_good (cntl0 s c) (cntl1 s c) (top s c)) _ _ e8 in
+          let e9 = ask-rest (quick_good (cntl0 s c) (cntl1 s c) (top s c)) _ _ e14 in
+          step-may (ask-first (span_good s c) _ _ e5) (ask-first (group_ready s c) _ _ e6) (ask-first (pattern_good s c) _ _ e7) (ask-first (ramp_good (cntl0 s c) (cntl1 s c) (top s c)) _ _ e8)
+          (ask-first (quick_good (cntl0 s c) (cntl1 s c) (top s c)) _ _ e14) (ask-first (target_good s c (target s c)) _ _ e9)
 
-      by : (b : Bool) → b ≡ false → is_yes (pick (b && eqb (request s c) 0) (ask (is_stepper s c) (No 3) (Yes (requested s c 3))) Rest) ≡ true → MayStep c s
+      by : (b : Bool) → b ≡ false → is_yes (pick (b && eqb (request s c) 0) (ask (is_stepper s c) (No OtherFunction) (Yes (requested s c 3))) Rest) ≡ true → MayStep c s
       by true z e = absurd (not-both refl z)
       by false z e = rest e
 

@@ -15,17 +15,18 @@ use Rattle.words.specs.Field.{field}
 use Rattle.words.proofs.ChoiceLaws.{pick-cases, not-both, fails, tests, and_left, and_right}
 use Rattle.words.proofs.FieldLaws.{field_lt, bit-and, words-equal}
 use Rattle.unit.specs.declared.State.{State}
-use Rattle.unit.specs.declared.Reading.TheVariants.{Word, Refused}
 use Rattle.unit.specs.declared.Place.{Place}
 use Rattle.unit.specs.declared.Place.TheVariants.{AtRegister, AtWord, AtLate, Nowhere}
-use Rattle.unit.specs.declared.Verdict.{Verdict}
-use Rattle.unit.specs.declared.Verdict.TheVariants.{Refused as Stops}
 use Rattle.unit.specs.TheUnit.{none, channel_at, stands_for, with_reg, with_words, with_word, with_initialised, with_channel, channel, cisr, reg, word, exists, interrupt_line, any, all, stepping}
 use Rattle.unit.specs.Gate.{place, is_place, in_list, is_free, keeps_or_free, target_good, ask_register, ask_word, ask_place, stored, done}
 use Rattle.unit.specs.Calls.{word_at, read_of, answered_by, write_of, is_taken}
 use Rattle.unit.specs.Readings.{register_address, word_address, late_address, Listed, ReadOnly, Exists, BothBits, Readings}
 use Rattle.unit.proofs.Places.{gate-place}
 use Rattle.unit.proofs.Tests.{or_left, or_right, any-yes, any_some, Found}
+use Rattle.std.specs.Prelude.{Err, Ok}
+use Rattle.unit.specs.Refusals.{Verdict}
+use Rattle.unit.specs.declared.Refusal.TheVariants.{NoSuchAddress}
+use Rattle.unit.specs.declared.Refusal.{Refusal}
 
 -- ---- addresses
 
@@ -71,9 +72,9 @@ outside-place P a n late nowhere =
 
 -- ---- reads
 
-read_at : (s : State) (a : ℕ) (p : Place) → place a ≡ p → read_of s a ≡ ask (is_place p) (Refused 1) (Word (word_at s p))
+read_at : (s : State) (a : ℕ) (p : Place) → place a ≡ p → read_of s a ≡ ask (is_place p) (Err NoSuchAddress) (Ok (word_at s p))
 unfolding read_of in_list
-read_at s a p e = ap (λ q. ask (is_place q) (Refused 1) (Word (word_at s q))) e
+read_at s a p e = ap (λ q. ask (is_place q) (Err NoSuchAddress) (Ok (word_at s q))) e
 
 pub exists-yes : (c i : ℕ) → Exists c i → exists c i ≡ true
 unfolding exists
@@ -83,23 +84,23 @@ pub exists-not : (c i : ℕ) → c < 14 → 6 ≤ i → exists c i ≡ false
 unfolding exists
 exists-not c i h l = rw (fails (leb 14 c) (λ t. omega (arith, tests)), fails (ltb i 6) (λ t. omega (arith, tests)))
 
-reads-register : (s : State) (i : ℕ) → i < 12 → read_of s (register_address i) ≡ Word (get_or s.regs i 0)
+reads-register : (s : State) (i : ℕ) → i < 12 → read_of s (register_address i) ≡ Ok (get_or s.regs i 0)
 unfolding is_place word_at reg ask
 reads-register s i h = read_at s (register_address i) (AtRegister i) (register-place i h)
 
-reads-missing : (s : State) (c i : ℕ) → c < 14 → 6 ≤ i → i < 8 → read_of s (word_address c i) ≡ Word 0
+reads-missing : (s : State) (c i : ℕ) → c < 14 → 6 ≤ i → i < 8 → read_of s (word_address c i) ≡ Ok 0
 unfolding is_place word_at word ask
-reads-missing s c i h m l = read_at s (word_address c i) (AtWord c i) (word-place c i (omega arith) l) ∙ ap (λ b. Word (pick b (get_or s.words (8 * c + i) 0) 0)) (exists-not c i h m)
+reads-missing s c i h m l = read_at s (word_address c i) (AtWord c i) (word-place c i (omega arith) l) ∙ ap (λ b. Ok (pick b (get_or s.words (8 * c + i) 0) 0)) (exists-not c i h m)
 
-reads_word : (s : State) (c i : ℕ) → c < 16 → i < 8 → Exists c i → read_of s (word_address c i) ≡ Word (get_or s.words (8 * c + i) 0)
+reads_word : (s : State) (c i : ℕ) → c < 16 → i < 8 → Exists c i → read_of s (word_address c i) ≡ Ok (get_or s.words (8 * c + i) 0)
 unfolding is_place word_at word ask
-reads_word s c i h l e = read_at s (word_address c i) (AtWord c i) (word-place c i h l) ∙ ap (λ b. Word (pick b (get_or s.words (8 * c + i) 0) 0)) (exists-yes c i e)
+reads_word s c i h l e = read_at s (word_address c i) (AtWord c i) (word-place c i h l) ∙ ap (λ b. Ok (pick b (get_or s.words (8 * c + i) 0) 0)) (exists-yes c i e)
 
-reads-late : (s : State) (c : ℕ) → c < 16 → read_of s (late_address c) ≡ Word (get_or s.channels c none).late
+reads-late : (s : State) (c : ℕ) → c < 16 → read_of s (late_address c) ≡ Ok (get_or s.channels c none).late
 unfolding is_place word_at channel channel_at stands_for ask
 reads-late s c h = read_at s (late_address c) (AtLate c) (late-place c h)
 
-reads-outside : (s : State) (a : ℕ) → (Listed a → ⊥) → (ReadOnly a → ⊥) → read_of s a ≡ Refused 1
+reads-outside : (s : State) (a : ℕ) → (Listed a → ⊥) → (ReadOnly a → ⊥) → read_of s a ≡ Err NoSuchAddress
 unfolding is_place word_at ask
 reads-outside s a n r = read_at s a Nowhere (outside-place (λ p. p ≡ Nowhere) a n (λ x. absurd (r x)) refl)
 
@@ -110,8 +111,8 @@ unfolding write_of
 write-at s a v p e = ap (λ k. answered_by k s) (gate-place s a v ∙ ap (λ q. ask_place s q v) e)
 
 -- where a question is put and the write is taken, the deed is done
-asked-done : (P : State → Type 0) (q : Bool) (n : ℕ) (s : State) (k : Verdict) → (is_taken (answered_by k s).answer ≡ true → P (answered_by k s).state)
-    → is_taken (answered_by (ask q (Stops n) k) s).answer ≡ true → P (answered_by (ask q (Stops n) k) s).state
+asked-done : (P : State → Type 0) (q : Bool) (n : Refusal) (s : State) (k : Verdict) → (is_taken (answered_by k s).answer ≡ true → P (answered_by k s).state)
+    → is_taken (answered_by (ask q (Err n) k) s).answer ≡ true → P (answered_by (ask q (Err n) k) s).state
 unfolding ask answered_by is_taken
 asked-done P true n s k f t = f t
 asked-done P false n s k f t = absurd (not-both t refl)
@@ -130,24 +131,24 @@ unfolding ask_word answered_by done
 word-done s c i v z h l e =
     rw (exists-yes c i e)
     (pick-cases (λ k. is_taken (answered_by k s).answer ≡ true → P (answered_by k s).state) (eqb i 3 && stepping s c)
-    (λ a. asked-done P (target_good s c v) 9 s _ (λ t. stored-reads s c i v z h l)) (λ a. asked-done P (is_free s c) 2 s _ (λ t. stored-reads s c i v z h l)))
+    (λ a. asked-done P (target_good s c v) _ s _ (λ t. stored-reads s c i v z h l)) (λ a. asked-done P (is_free s c) _ s _ (λ t. stored-reads s c i v z h l)))
   where
     P : State → Type 0
     P t = get_or t.words (8 * c + i) 0 ≡ v
 
 word-written : (s : State) (c i v : ℕ) → length s.words ≡ 128 → c < 16 → i < 8 → Exists c i
-    → is_taken (write_of s (word_address c i) v).answer ≡ true → read_of (write_of s (word_address c i) v).state (word_address c i) ≡ Word v
+    → is_taken (write_of s (word_address c i) v).answer ≡ true → read_of (write_of s (word_address c i) v).state (word_address c i) ≡ Ok v
 unfolding ask_place
 word-written s c i v z h l e =
     rw (write-at s (word_address c i) v (AtWord c i) (word-place c i h l))
-    (λ t. reads_word _ c i h l e ∙ ap Word (word-done s c i v z h l e t))
+    (λ t. reads_word _ c i h l e ∙ ap Ok (word-done s c i v z h l e t))
 
 register-done : (s : State) (i v : ℕ) → length s.regs ≡ 12 → i < 11 → i ≢ 7 → i ≢ 8
     → is_taken (answered_by (ask_register s i v) s).answer ≡ true → get_or (answered_by (ask_register s i v) s).state.regs i 0 ≡ v
 unfolding ask_register answered_by done with_reg
 register-done s i v z h n m =
     pick-cases Q (eqb i cisr) (λ a. absurd (omega (arith, tests)))
-    (λ a. pick-cases Q (leb 1 i && leb i 4) (λ b. asked-done P (all 4 (4 * (4 - i)) (keeps_or_free s v)) 2 s _ (λ t. same))
+    (λ a. pick-cases Q (leb 1 i && leb i 4) (λ b. asked-done P (all 4 (4 * (4 - i)) (keeps_or_free s v)) _ s _ (λ t. same))
     (λ b. pick-cases Q (leb 7 i && leb i 8) (λ c. absurd (hsrr (leb-true 7 i (and_left (leb 7 i) _ c)) (leb-true i 8 (and_right (leb 7 i) _ c)))) (λ c t. same)))
   where
     P : State → Type 0
@@ -163,11 +164,11 @@ register-done s i v z h n m =
     hsrr a b = n (omega (arith, m))
 
 register-written : (s : State) (i v : ℕ) → length s.regs ≡ 12 → i < 11 → i ≢ 7 → i ≢ 8
-    → is_taken (write_of s (register_address i) v).answer ≡ true → read_of (write_of s (register_address i) v).state (register_address i) ≡ Word v
+    → is_taken (write_of s (register_address i) v).answer ≡ true → read_of (write_of s (register_address i) v).state (register_address i) ≡ Ok v
 unfolding ask_place
 register-written s i v z h n m =
     rw (write-at s (register_address i) v (AtRegister i) (register-place i (omega arith)))
-    (λ t. reads-register _ i (omega arith) ∙ ap Word (register-done s i v z h n m t))
+    (λ t. reads-register _ i (omega arith) ∙ ap Ok (register-done s i v z h n m t))
 
 keeps : (s : State) (v : ℕ) → length s.regs ≡ 12 → get_or (write_of s (register_address 11) v).state.regs 11 0 ≡ bit_and (get_or s.regs 11 0) v
 unfolding ask_place ask_register answered_by done with_reg reg

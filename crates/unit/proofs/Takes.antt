@@ -18,13 +18,10 @@ use Rattle.words.proofs.FieldLaws.{field_lt}
 use Rattle.unit.specs.declared.State.{State}
 use Rattle.unit.specs.declared.Deed.{Deed}
 use Rattle.unit.specs.declared.Deed.TheVariants.{Register, Keep}
-use Rattle.unit.specs.declared.Verdict.TheVariants.{Taken as Does, Refused as Stops}
 use Rattle.unit.specs.declared.Place.TheVariants.{AtRegister, AtWord}
-use Rattle.unit.specs.declared.Answer.TheVariants.{Taken, Refused}
-use Rattle.unit.specs.declared.Answer.{Answer}
 use Rattle.unit.specs.declared.Answered.{Answered}
 use Rattle.unit.specs.OneTick.{after_ticks}
-use Rattle.unit.specs.TheUnit.{all, each, cisr, cfsr_of, hsrr_of, reg, function, request, channel, word, target, top, last, size, exists, stepping, is_bound}
+use Rattle.unit.specs.TheUnit.{all, each, cisr, cfsr_of, hsrr_of, reg, function, request, channel, word, top, last, size, exists, stepping, is_bound}
 use Rattle.unit.specs.Gate.{place, is_free, is_stepper, span_good, is_ready, group_ready, target_good, advance_good, requested, Asked, Yes, No, ask_initialise, ask_step, ask_channel, and_then, ask_channels, verdict_of, keeps_or_free, ask_register, ask_word, ask_place, requested_one, done}
 use Rattle.unit.specs.Calls.{answered_by, write_of, is_taken, advance_of}
 use Rattle.unit.specs.Readings.{register_address, word_address, Listed, Exists}
@@ -35,6 +32,10 @@ use Rattle.unit.proofs.Requests.{going, request-write, pends}
 use Rattle.unit.proofs.Together.{above_same, initialise-after, step_after, group-bound}
 use Rattle.unit.proofs.Readings.{register-place, word-place, outside-place, exists-yes, exists-not, write-at}
 use Rattle.unit.proofs.Questions.{all-all, is_yes, answer_of, yes-asks, or-second, free-is, is_free_lem, stepper-is, is-stepper, is-still, initialise-asks, is-initialise, step-asks, is-repeat, is-step}
+use Rattle.std.specs.Prelude.{Err, Ok}
+use Rattle.unit.specs.Refusals.{Answer}
+use Rattle.unit.specs.declared.Refusal.TheVariants.{GroupNotReady, NoSuchAddress, NotFree, OtherFunction, TargetTooFar, TooManyTicks}
+use Rattle.unit.specs.declared.Refusal.{Refusal}
 
 -- ---- question 10
 
@@ -46,7 +47,7 @@ advance-taken : (s : State) (n : ℕ) (lent : List ℕ) → is_taken (advance_of
 unfolding advance_of is_taken
 advance-taken s n lent = by (advance_good n lent)
   where
-    by : (b : Bool) → is_taken (pick {A = Answered} b record { answer = Taken; state = after_ticks n s } record { answer = Refused 10; state = s }).answer ≡ b
+    by : (b : Bool) → is_taken (pick {A = Answered} b record { answer = Ok tt; state = after_ticks n s } record { answer = Err TooManyTicks; state = s }).answer ≡ b
     by true = refl
     by false = refl
 
@@ -136,7 +137,7 @@ module _ (i v m : ℕ) (s : State) (z : Sized s) (words : (k : ℕ) → get_or s
   -- the next one, in the group of a lower one that is set going
   module _ (c : ℕ) (q : c / 8 ≡ 8 - i) (e : field 2 v (2 * (c % 8)) ≡ 3) (y : MayStep c s) where
     asked-within : (n : ℕ) → n < 8 → c < 8 * (8 - i) + n → 8 * (8 - i) + n ≤ field 4 (word s c 5) 0 → 2 ≤ field 2 v (2 * ((8 * (8 - i) + n) % 8))
-        → ask_channel (field 2 v (2 * ((8 * (8 - i) + n) % 8))) (8 * (8 - i) + n) (each n (8 * (8 - i)) (requested_one v) s) ≡ No 2
+        → ask_channel (field 2 v (2 * ((8 * (8 - i) + n) % 8))) (8 * (8 - i) + n) (each n (8 * (8 - i)) (requested_one v) s) ≡ No NotFree
     unfolding ask_channel ask_initialise ask_step ask is_free
     asked-within n l k h g = by (eqb (field 2 v (2 * (j % 8))) 2) refl
       where
@@ -152,13 +153,13 @@ module _ (i v m : ℕ) (s : State) (z : Sized s) (words : (k : ℕ) → get_or s
         still : stepping t j ≡ false
         still = going j s t (above_same i v n s z a b (omega arith) j (omega arith) (omega arith)).own ∙ is-still j s (y.group j (omega arith) h).free.unbound
 
-        by : (d : Bool) → eqb (field 2 v (2 * (j % 8))) 2 ≡ d → ask_channel (field 2 v (2 * (j % 8))) j t ≡ No 2
+        by : (d : Bool) → eqb (field 2 v (2 * (j % 8))) 2 ≡ d → ask_channel (field 2 v (2 * (j % 8))) j t ≡ No NotFree
         by true d = rw (d, reached) refl
         by false d =
             let w : field 2 v (2 * (j % 8)) ≢ 2 = eqb-false _ 2 d in
             rw (d, eq-eqb (field 2 v (2 * (j % 8))) 3 (omega (arith, field_lt 2 v (2 * (j % 8)))), still, reached) refl
 
-    refused-within : (n : ℕ) → n ≤ 8 → c < m → m ≤ field 4 (word s c 5) 0 → m < 8 * (8 - i) + n → 2 ≤ field 2 v (2 * (m % 8)) → ask_channels n (8 * (8 - i)) v s ≡ No 2
+    refused-within : (n : ℕ) → n ≤ 8 → c < m → m ≤ field 4 (word s c 5) 0 → m < 8 * (8 - i) + n → 2 ≤ field 2 v (2 * (m % 8)) → ask_channels n (8 * (8 - i)) v s ≡ No NotFree
     unfolding ask_channels and_then
     refused-within zero l k h w g = absurd (omega arith)
     refused-within (suc n) l k h w g =
@@ -169,22 +170,22 @@ module _ (i v m : ℕ) (s : State) (z : Sized s) (words : (k : ℕ) → get_or s
 
 -- ---- the other writes
 
--- the answer where one question, of the number n, is put
-unfoldable by_question : Bool → ℕ → Answer
-by_question true n = Taken
-by_question false n = Refused n
+-- the answer where one question is put, and n says that it said no
+unfoldable by_question : Bool → Refusal → Answer
+by_question true n = Ok tt
+by_question false n = Err n
 
-one-question : (q : Bool) (n : ℕ) (d : Deed) (s : State) → (answered_by (ask q (Stops n) (Does d)) s).answer ≡ by_question q n
+one-question : (q : Bool) (n : Refusal) (d : Deed) (s : State) → (answered_by (ask q (Err n) (Ok d)) s).answer ≡ by_question q n
 unfolding ask answered_by by_question
 one-question true n d s = refl
 one-question false n d s = refl
 
-by-taken : (q : Bool) (n : ℕ) (a : Answer) → a ≡ by_question q n → is_taken a ≡ q
+by-taken : (q : Bool) (n : Refusal) (a : Answer) → a ≡ by_question q n → is_taken a ≡ q
 unfolding by_question is_taken
 by-taken true n a e = rw e refl
 by-taken false n a e = rw e refl
 
-by-refused : (q : Bool) (n : ℕ) (a : Answer) → a ≡ by_question q n → (q ≡ true → ⊥) → a ≡ Refused n
+by-refused : (q : Bool) (n : Refusal) (a : Answer) → a ≡ by_question q n → (q ≡ true → ⊥) → a ≡ Err n
 unfolding by_question
 by-refused q n a e f = e ∙ rw (fails q f) refl
 
@@ -192,13 +193,13 @@ again-asks : (c : ℕ) (s : State) → stepping s c ≡ true → request s c ≡
 unfolding ask_step
 again-asks c s g e = rw (g, eq-eqb (request s c) 0 e) (by (is_stepper s c))
   where
-    by : (q : Bool) → is_yes (ask q (No 3) (Yes (requested s c 3))) ≡ q
+    by : (q : Bool) → is_yes (ask q (No OtherFunction) (Yes (requested s c 3))) ≡ q
     by q = yes-asks q (requested s c 3)
 
-target-answer : (s : State) (c v : ℕ) → c < 16 → stepping s c ≡ true → (write_of s (word_address c 3) v).answer ≡ by_question (target_good s c v) 9
+target-answer : (s : State) (c v : ℕ) → c < 16 → stepping s c ≡ true → (write_of s (word_address c 3) v).answer ≡ by_question (target_good s c v) TargetTooFar
 unfolding ask_place ask_word exists
 target-answer s c v h g =
-    rw (write-at s (word_address c 3) v (AtWord c 3) (word-place c 3 h (omega arith)), or_right (leb 14 c) true refl, g) (one-question (target_good s c v) 9 _ s)
+    rw (write-at s (word_address c 3) v (AtWord c 3) (word-place c 3 h (omega arith)), or_right (leb 14 c) true refl, g) (one-question (target_good s c v) _ _ s)
 
 target-asks : (s : State) (c v : ℕ) → target_good s c v ≡ true → field 4 (word s c 5) 8 < 16 → v + field 4 (word s c 5) 8 ≤ 0xffff
 unfolding target_good top
@@ -208,19 +209,19 @@ target-good : (s : State) (c v : ℕ) → v + field 4 (word s c 5) 8 ≤ 0xffff 
 unfolding target_good top
 target-good s c v l = le-leb v (0xffff - field 4 (word s c 5) 8) (omega arith)
 
-word-answer : (s : State) (c i v : ℕ) → c < 16 → i < 8 → Exists c i → (i ≡ 3 → stepping s c ≡ false) → (write_of s (word_address c i) v).answer ≡ by_question (is_free s c) 2
+word-answer : (s : State) (c i v : ℕ) → c < 16 → i < 8 → Exists c i → (i ≡ 3 → stepping s c ≡ false) → (write_of s (word_address c i) v).answer ≡ by_question (is_free s c) NotFree
 unfolding ask_place ask_word
 word-answer s c i v h l e n =
-    rw (write-at s (word_address c i) v (AtWord c i) (word-place c i h l), exists-yes c i e, other) (one-question (is_free s c) 2 _ s)
+    rw (write-at s (word_address c i) v (AtWord c i) (word-place c i h l), exists-yes c i e, other) (one-question (is_free s c) _ _ s)
   where
     other : (eqb i 3 && stepping s c) ≡ false
     other = fails (eqb i 3 && stepping s c) (λ t. not-both (and_right (eqb i 3) _ t) (n (eqb-true i 3 (and_left (eqb i 3) _ t))))
 
-functions-answer : (s : State) (i v : ℕ) → 1 ≤ i → i ≤ 4 → (write_of s (register_address i) v).answer ≡ by_question (all 4 (4 * (4 - i)) (keeps_or_free s v)) 2
+functions-answer : (s : State) (i v : ℕ) → 1 ≤ i → i ≤ 4 → (write_of s (register_address i) v).answer ≡ by_question (all 4 (4 * (4 - i)) (keeps_or_free s v)) NotFree
 unfolding ask_place ask_register
 functions-answer s i v a b =
     rw (write-at s (register_address i) v (AtRegister i) (register-place i (omega arith)), ne_eqb i 11 (λ q. omega arith), le-leb 1 i a, le-leb i 4 b)
-    (one-question (all 4 (4 * (4 - i)) (keeps_or_free s v)) 2 _ s)
+    (one-question (all 4 (4 * (4 - i)) (keeps_or_free s v)) _ _ s)
 
 own-function : (s : State) (i j : ℕ) → 1 ≤ i → i ≤ 4 → j / 4 ≡ 4 - i → function s j ≡ field 4 (reg s i) (4 * (j % 4))
 unfolding function cfsr_of
@@ -244,11 +245,11 @@ functions-good s i v a b f = all-all (keeps_or_free s v) 4 (4 * (4 - i)) (λ j x
 
 -- ---- the numbers
 
-writes-outside : (s : State) (a v : ℕ) → (Listed a → ⊥) → write_of s a v ≡ record { answer = Refused 1; state = s }
+writes-outside : (s : State) (a v : ℕ) → (Listed a → ⊥) → write_of s a v ≡ record { answer = Err NoSuchAddress; state = s }
 unfolding ask_place answered_by
 writes-outside s a v n =
     rw (write-at s a v (place a) refl)
-    (outside-place (λ p. answered_by (ask_place s p v) s ≡ record { answer = Refused 1; state = s }) a n (λ r. refl) refl)
+    (outside-place (λ p. answered_by (ask_place s p v) s ≡ record { answer = Err NoSuchAddress; state = s }) a n (λ r. refl) refl)
 
 -- a register of which only question 1 is asked
 plain-taken : (s : State) (i v : ℕ) → i < 12 → (leb 1 i && leb i 4) ≡ false → (leb 7 i && leb i 8) ≡ false → is_taken (write_of s (register_address i) v).answer ≡ true
@@ -256,7 +257,7 @@ unfolding ask_place ask_register answered_by is_taken
 plain-taken s i v h a b =
     rw (write-at s (register_address i) v (AtRegister i) (register-place i h), a, b) (by (eqb i cisr))
   where
-    by : (t : Bool) → is_taken (answered_by (pick t (Does (Keep v)) (Does (Register i v))) s).answer ≡ true
+    by : (t : Bool) → is_taken (answered_by (pick t (Ok (Keep v)) (Ok (Register i v))) s).answer ≡ true
     by true = refl
     by false = refl
 
@@ -271,11 +272,11 @@ others-taken s i v =
     taken : i < 12 → (1 ≤ i → i ≤ 4 → ⊥) → (7 ≤ i → i ≤ 8 → ⊥) → is_taken (write_of s (register_address i) v).answer ≡ true
     taken h a b = plain-taken s i v h (none 1 4 a) (none 7 8 b)
 
-missing-written : (s : State) (c i v : ℕ) → c < 14 → 6 ≤ i → i < 8 → write_of s (word_address c i) v ≡ record { answer = Taken; state = s }
+missing-written : (s : State) (c i v : ℕ) → c < 14 → 6 ≤ i → i < 8 → write_of s (word_address c i) v ≡ record { answer = Ok tt; state = s }
 unfolding ask_place ask_word answered_by done
 missing-written s c i v h m l = rw (write-at s (word_address c i) v (AtWord c i) (word-place c i (omega arith) l), exists-not c i h m) refl
 
-busy-number : (c : ℕ) (s : State) → request s c ≢ 0 → answer_of (ask_step s c) ≡ Refused 2
+busy-number : (c : ℕ) (s : State) → request s c ≢ 0 → answer_of (ask_step s c) ≡ Err NotFree
 unfolding ask_step is_free ask answer_of
 busy-number c s n = rw (ne_eqb (request s c) 0 n, and-false (stepping s c), and-false (not (is_bound s c))) refl
   where
@@ -283,7 +284,7 @@ busy-number c s n = rw (ne_eqb (request s c) 0 n, and-false (stepping s c), and-
     and-false true = refl
     and-false false = refl
 
-again-number : (c : ℕ) (s : State) → stepping s c ≡ true → request s c ≡ 0 → (Stepper c s → ⊥) → answer_of (ask_step s c) ≡ Refused 3
+again-number : (c : ℕ) (s : State) → stepping s c ≡ true → request s c ≡ 0 → (Stepper c s → ⊥) → answer_of (ask_step s c) ≡ Err OtherFunction
 unfolding ask_step ask answer_of
 again-number c s g e n = rw (g, eq-eqb (request s c) 0 e, fails (is_stepper s c) (λ t. n (stepper-is c s t))) refl
 
@@ -309,14 +310,14 @@ not_alike c j s a b n =
     (and_right (is_stepper s j && ((channel s j).initialised && is_free s j)) _ (all_yes (is_ready s k) j (suc (field 4 (word s c 5) 0) - c) c a (omega arith) e))))
 
 odd-kind : (c j : ℕ) (s : State) → Free c s → Stepper c s → span_good s c ≡ true → c ≤ j → j ≤ field 4 (word s c 5) 0
-    → (channel s j).kind ≢ (channel s c).kind → answer_of (ask_step s c) ≡ Refused 6
+    → (channel s j).kind ≢ (channel s c).kind → answer_of (ask_step s c) ≡ Err GroupNotReady
 odd-kind c j s f t e a b n = (step-numbers c s (is-still c s f.unbound)).six (is_free_lem c s f) (is-stepper c s t) e (not_alike c j s a b n)
 
 initialise-numbers : (c : ℕ) (s : State) → InitialiseNumbers c s (answer_of (ask_initialise s c))
 unfolding ask_initialise ask answer_of
 initialise-numbers c s = record { two = λ a. rw a refl; three = λ a b. rw (a, b) refl; four = λ a b d. rw (a, b, d) refl }
 
-advance-number : (s : State) (n : ℕ) (lent : List ℕ) → (4096 < n) ⊎ (length lent < n) → (advance_of s n lent).answer ≡ Refused 10
+advance-number : (s : State) (n : ℕ) (lent : List ℕ) → (4096 < n) ⊎ (length lent < n) → (advance_of s n lent).answer ≡ Err TooManyTicks
 unfolding advance_of
 advance-number s n lent o = rw (fails (advance_good n lent) (λ e. let k : (n ≤ 4096) × (n ≤ length lent) = advance-asks n lent e in ⊎_elim (λ l. omega arith) (λ l. omega arith) o)) refl
 
@@ -337,16 +338,16 @@ takes =
       requests = pends;
       together = λ s i v w d a b x. ap is_taken (requests-answer s i v a b ∙ ap answer_of (asked-together i v 16 s w d a b x 8 (omega arith) (omega arith)));
       within = λ s i v c j w d a b x q e y p g k h. requests-answer s i v a b ∙ ap answer_of (refused-within i v j s w d a b x c q e y 8 (omega arith) k h (omega arith) g);
-      target = λ s c v h g t. target-asks s c v (sym (by-taken _ 9 _ (target-answer s c v h g)) ∙ t) (field_lt 4 (word s c 5) 8);
-      targets = λ s c v h g l. by-taken _ 9 _ (target-answer s c v h g) ∙ target-good s c v l;
-      word = λ s c i v h l e n t. free-is c s (sym (by-taken _ 2 _ (word-answer s c i v h l e n)) ∙ t);
-      words = λ s c i v h l e n f. by-taken _ 2 _ (word-answer s c i v h l e n) ∙ is_free_lem c s f;
-      functions = λ s i v a b t. functions-ask s i v a b (sym (by-taken _ 2 _ (functions-answer s i v a b)) ∙ t);
-      functions-all = λ s i v a b f. by-taken _ 2 _ (functions-answer s i v a b) ∙ functions-good s i v a b f;
+      target = λ s c v h g t. target-asks s c v (sym (by-taken _ _ _ (target-answer s c v h g)) ∙ t) (field_lt 4 (word s c 5) 8);
+      targets = λ s c v h g l. by-taken _ _ _ (target-answer s c v h g) ∙ target-good s c v l;
+      word = λ s c i v h l e n t. free-is c s (sym (by-taken _ _ _ (word-answer s c i v h l e n)) ∙ t);
+      words = λ s c i v h l e n f. by-taken _ _ _ (word-answer s c i v h l e n) ∙ is_free_lem c s f;
+      functions = λ s i v a b t. functions-ask s i v a b (sym (by-taken _ _ _ (functions-answer s i v a b)) ∙ t);
+      functions-all = λ s i v a b f. by-taken _ _ _ (functions-answer s i v a b) ∙ functions-good s i v a b f;
       outside = λ s a v n. writes-outside s a v n;
-      word_number = λ s c i v h l e n f. by-refused _ 2 _ (word-answer s c i v h l e n) (λ t. f (free-is c s t));
-      target-number = λ s c v h g l. by-refused _ 9 _ (target-answer s c v h g) (λ t. let k = target-asks s c v t (field_lt 4 (word s c 5) 8) in omega arith);
-      functions-number = λ s i v j a b q n f. by-refused _ 2 _ (functions-answer s i v a b) (λ t. f (functions-ask s i v a b t j q n));
+      word_number = λ s c i v h l e n f. by-refused _ _ _ (word-answer s c i v h l e n) (λ t. f (free-is c s t));
+      target-number = λ s c v h g l. by-refused _ _ _ (target-answer s c v h g) (λ t. let k = target-asks s c v t (field_lt 4 (word s c 5) 8) in omega arith);
+      functions-number = λ s i v j a b q n f. by-refused _ _ _ (functions-answer s i v a b) (λ t. f (functions-ask s i v a b t j q n));
       others = others-taken;
       missing = missing-written;
       busy = λ s c v x n. request-answer 3 c v x s ∙ busy-number c s n;

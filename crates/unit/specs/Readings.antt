@@ -1,11 +1,11 @@
 -- What a read gives, address by address, and what a taken write leaves to be read. Document 01, "The unit". The claim: `Readings`.
-use Rattle.std.specs.Prelude.{ℕ, ◌+◌, ◌*◌, ◌%◌, ◌≤◌, ◌<◌, true, ◌≡◌, ◌≢◌, ◌⊎◌, get_or}
+use Rattle.std.specs.Prelude.{ℕ, ◌+◌, ◌*◌, ◌%◌, ◌≤◌, ◌<◌, true, ◌≡◌, ◌≢◌, ◌⊎◌, get_or, Err, Ok}
 use Rattle.words.specs.Field.{field}
 use Rattle.unit.specs.declared.State.{State}
-use Rattle.unit.specs.declared.Reading.TheVariants.{Word, Refused}
 use Rattle.unit.specs.TheUnit.{none, Whole, interrupt_line}
 use Rattle.unit.specs.Calls.{read_of, write_of, is_taken}
 use Rattle.unit.specs.Answers.{reading_word}
+use Rattle.unit.specs.declared.Refusal.TheVariants.{NoSuchAddress}
 
 -- the addresses: register i, 0 to 11, and word i, 0 to 7, of channel c
 abbrev pub register_address : ℕ → ℕ
@@ -44,16 +44,16 @@ pub record BothBits (s : State) : Type 0 where
 pub record Readings : Type 0 where
   -- each register address gives its own register, each word address its own word, a missing word 0, each address of #108 its channel's
   -- number, any other address no word
-  pub register : (s : State) (i : ℕ) → i < 12 → read_of s (register_address i) ≡ Word (get_or s.regs i 0)
-  pub word : (s : State) (c i : ℕ) → c < 16 → i < 8 → Exists c i → read_of s (word_address c i) ≡ Word (get_or s.words (8 * c + i) 0)
-  pub missing : (s : State) (c i : ℕ) → c < 14 → 6 ≤ i → i < 8 → read_of s (word_address c i) ≡ Word 0
-  pub late : (s : State) (c : ℕ) → c < 16 → read_of s (late_address c) ≡ Word (get_or s.channels c none).late
-  pub outside : (s : State) (a : ℕ) → (Listed a → ⊥) → (ReadOnly a → ⊥) → read_of s a ≡ Refused 1
+  pub register : (s : State) (i : ℕ) → i < 12 → read_of s (register_address i) ≡ Ok (get_or s.regs i 0)
+  pub word : (s : State) (c i : ℕ) → c < 16 → i < 8 → Exists c i → read_of s (word_address c i) ≡ Ok (get_or s.words (8 * c + i) 0)
+  pub missing : (s : State) (c i : ℕ) → c < 14 → 6 ≤ i → i < 8 → read_of s (word_address c i) ≡ Ok 0
+  pub late : (s : State) (c : ℕ) → c < 16 → read_of s (late_address c) ≡ Ok (get_or s.channels c none).late
+  pub outside : (s : State) (a : ℕ) → (Listed a → ⊥) → (ReadOnly a → ⊥) → read_of s a ≡ Err NoSuchAddress
   -- what was written and taken is read back: a word, and a register but HSRR and CISR
   pub word-written : (s : State) (c i v : ℕ) → Whole s → c < 16 → i < 8 → Exists c i
-      → is_taken (write_of s (word_address c i) v).answer ≡ true → read_of (write_of s (word_address c i) v).state (word_address c i) ≡ Word v
+      → is_taken (write_of s (word_address c i) v).answer ≡ true → read_of (write_of s (word_address c i) v).state (word_address c i) ≡ Ok v
   pub register-written : (s : State) (i v : ℕ) → Whole s → i < 11 → i ≢ 7 → i ≢ 8
-      → is_taken (write_of s (register_address i) v).answer ≡ true → read_of (write_of s (register_address i) v).state (register_address i) ≡ Word v
+      → is_taken (write_of s (register_address i) v).answer ≡ true → read_of (write_of s (register_address i) v).state (register_address i) ≡ Ok v
   -- CISR, bit by bit: where the word has 0 the bit is 0 afterwards, where it has 1 the bit stays
   pub cleared : (s : State) (v k : ℕ) → Whole s → field 1 v k ≡ 0 → field 1 (get_or (write_of s (register_address 11) v).state.regs 11 0) k ≡ 0
   pub kept : (s : State) (v k : ℕ) → Whole s → field 1 v k ≡ 1

@@ -1,14 +1,14 @@
 -- When a call is taken, in numbers of its own, for every state. Document 01, "Questions at the gate". The claim: `Takes`.
-use Rattle.std.specs.Prelude.{ℕ, suc, ◌+◌, ◌-◌, ◌*◌, ◌/◌, ◌%◌, ◌≤◌, ◌<◌, true, false, ◌≡◌, ◌≢◌, ◌⊎◌, List, get_or, length}
+use Rattle.std.specs.Prelude.{ℕ, suc, ◌+◌, ◌-◌, ◌*◌, ◌/◌, ◌%◌, ◌≤◌, ◌<◌, true, false, ◌≡◌, ◌≢◌, ◌⊎◌, List, get_or, length, Err, Ok}
 use Rattle.words.specs.declared.Timer.{Timer}
 use Rattle.words.specs.Field.{field}
 use Rattle.unit.specs.declared.State.{State}
 use Rattle.unit.specs.TheUnit.{Whole, reg, channel, word, target, top, cntl0, cntl1, stepping, is_bound}
-use Rattle.unit.specs.declared.Answer.{Answer}
-use Rattle.unit.specs.declared.Answer.TheVariants.{Taken, Refused}
 use Rattle.unit.specs.Gate.{is_free, is_stepper, may_initialise, span_good, group_ready, pattern_good, ramp_good, quick_good, target_good}
 use Rattle.unit.specs.Calls.{advance_of, write_of, is_taken}
 use Rattle.unit.specs.Readings.{register_address, word_address, Listed, Exists}
+use Rattle.unit.specs.Refusals.{Answer}
+use Rattle.unit.specs.declared.Refusal.TheVariants.{GroupNotReady, NoSuchAddress, NotFree, OtherFunction, TargetTooFar, TooFast, TooManyTicks, WrongControl, WrongPattern, WrongRamp, WrongSpan}
 
 -- what is pending: two bits of HSRR0, register 7, for channels 15 to 8, else of HSRR1
 abbrev pub pending : ℕ → State → ℕ
@@ -90,22 +90,22 @@ pub record Pends (c v : ℕ) (s t : State) : Type 0 where
 
 -- the number of the first no: a step request of a motor at rest, and an initialise
 pub record StepNumbers (c : ℕ) (s : State) (answer : Answer) : Type 0 where
-  pub two : is_free s c ≡ false → answer ≡ Refused 2
-  pub three : is_free s c ≡ true → is_stepper s c ≡ false → answer ≡ Refused 3
-  pub five : is_free s c ≡ true → is_stepper s c ≡ true → span_good s c ≡ false → answer ≡ Refused 5
-  pub six : is_free s c ≡ true → is_stepper s c ≡ true → span_good s c ≡ true → group_ready s c ≡ false → answer ≡ Refused 6
-  pub seven : is_free s c ≡ true → is_stepper s c ≡ true → span_good s c ≡ true → group_ready s c ≡ true → pattern_good s c ≡ false → answer ≡ Refused 7
+  pub two : is_free s c ≡ false → answer ≡ Err NotFree
+  pub three : is_free s c ≡ true → is_stepper s c ≡ false → answer ≡ Err OtherFunction
+  pub five : is_free s c ≡ true → is_stepper s c ≡ true → span_good s c ≡ false → answer ≡ Err WrongSpan
+  pub six : is_free s c ≡ true → is_stepper s c ≡ true → span_good s c ≡ true → group_ready s c ≡ false → answer ≡ Err GroupNotReady
+  pub seven : is_free s c ≡ true → is_stepper s c ≡ true → span_good s c ≡ true → group_ready s c ≡ true → pattern_good s c ≡ false → answer ≡ Err WrongPattern
   pub eight : is_free s c ≡ true → is_stepper s c ≡ true → span_good s c ≡ true → group_ready s c ≡ true → pattern_good s c ≡ true
-      → ramp_good (cntl0 s c) (cntl1 s c) (top s c) ≡ false → answer ≡ Refused 8
+      → ramp_good (cntl0 s c) (cntl1 s c) (top s c) ≡ false → answer ≡ Err WrongRamp
   pub fourteen : is_free s c ≡ true → is_stepper s c ≡ true → span_good s c ≡ true → group_ready s c ≡ true → pattern_good s c ≡ true
-      → ramp_good (cntl0 s c) (cntl1 s c) (top s c) ≡ true → quick_good (cntl0 s c) (cntl1 s c) (top s c) ≡ false → answer ≡ Refused 14
+      → ramp_good (cntl0 s c) (cntl1 s c) (top s c) ≡ true → quick_good (cntl0 s c) (cntl1 s c) (top s c) ≡ false → answer ≡ Err TooFast
   pub nine : is_free s c ≡ true → is_stepper s c ≡ true → span_good s c ≡ true → group_ready s c ≡ true → pattern_good s c ≡ true
-      → ramp_good (cntl0 s c) (cntl1 s c) (top s c) ≡ true → quick_good (cntl0 s c) (cntl1 s c) (top s c) ≡ true → target_good s c (target s c) ≡ false → answer ≡ Refused 9
+      → ramp_good (cntl0 s c) (cntl1 s c) (top s c) ≡ true → quick_good (cntl0 s c) (cntl1 s c) (top s c) ≡ true → target_good s c (target s c) ≡ false → answer ≡ Err TargetTooFar
 
 pub record InitialiseNumbers (c : ℕ) (s : State) (answer : Answer) : Type 0 where
-  pub two : is_free s c ≡ false → answer ≡ Refused 2
-  pub three : is_free s c ≡ true → is_stepper s c ≡ false → answer ≡ Refused 3
-  pub four : is_free s c ≡ true → is_stepper s c ≡ true → may_initialise s c ≡ false → answer ≡ Refused 4
+  pub two : is_free s c ≡ false → answer ≡ Err NotFree
+  pub three : is_free s c ≡ true → is_stepper s c ≡ false → answer ≡ Err OtherFunction
+  pub four : is_free s c ≡ true → is_stepper s c ≡ true → may_initialise s c ≡ false → answer ≡ Err WrongControl
 
 pub record Takes : Type 0 where
   -- question 10
@@ -121,7 +121,7 @@ pub record Takes : Type 0 where
       → MayStep c s → is_taken (write_of s (request_address c) v).answer ≡ true
   -- a group of both kinds gets 6, whichever channel is of another kind than the primary. Paper 02, #106
   pub odd-kind : (s : State) (c v j : ℕ) → AsksOne 3 c v → Free c s → Stepper c s → span_good s c ≡ true → c ≤ j → j ≤ field 4 (word s c 5) 0
-      → (channel s j).kind ≢ (channel s c).kind → (write_of s (request_address c) v).answer ≡ Refused 6
+      → (channel s j).kind ≢ (channel s c).kind → (write_of s (request_address c) v).answer ≡ Err GroupNotReady
   -- of one that is under way, without a pending request, it is just where the function is 13
   pub again : (s : State) (c v : ℕ) → AsksOne 3 c v → stepping s c ≡ true → pending c s ≡ 0
       → is_taken (write_of s (request_address c) v).answer ≡ true → Stepper c s
@@ -136,12 +136,12 @@ pub record Takes : Type 0 where
   -- the lowest first: the next one asked, j, lies in the group of a lower one that is set going, and gets 2
   pub within : (s : State) (i v c j : ℕ) → Whole s → ((k : ℕ) → get_or s.words k 0 ≤ 0xffff) → 7 ≤ i → i ≤ 8 → Together i v j s
       → c / 8 ≡ 8 - i → field 2 v (2 * (c % 8)) ≡ 3 → MayStep c s
-      → j / 8 ≡ 8 - i → 2 ≤ field 2 v (2 * (j % 8)) → c < j → j ≤ field 4 (word s c 5) 0 → (write_of s (register_address i) v).answer ≡ Refused 2
+      → j / 8 ≡ 8 - i → 2 ≤ field 2 v (2 * (j % 8)) → c < j → j ≤ field 4 (word s c 5) 0 → (write_of s (register_address i) v).answer ≡ Err NotFree
   -- a target of a primary that is under way is taken just where it is at most $FFFF - N, whatever is pending
   pub target : (s : State) (c v : ℕ) → c < 16 → stepping s c ≡ true → is_taken (write_of s (word_address c 3) v).answer ≡ true → v + field 4 (word s c 5) 8 ≤ 0xffff
   pub targets : (s : State) (c v : ℕ) → c < 16 → stepping s c ≡ true → v + field 4 (word s c 5) 8 ≤ 0xffff → is_taken (write_of s (word_address c 3) v).answer ≡ true
   -- else it gets 9
-  pub target-number : (s : State) (c v : ℕ) → c < 16 → stepping s c ≡ true → 0xffff < v + field 4 (word s c 5) 8 → (write_of s (word_address c 3) v).answer ≡ Refused 9
+  pub target-number : (s : State) (c v : ℕ) → c < 16 → stepping s c ≡ true → 0xffff < v + field 4 (word s c 5) 8 → (write_of s (word_address c 3) v).answer ≡ Err TargetTooFar
   -- any other word that exists is taken just where its channel is free
   pub word : (s : State) (c i v : ℕ) → c < 16 → i < 8 → Exists c i → (i ≡ 3 → stepping s c ≡ false) → is_taken (write_of s (word_address c i) v).answer ≡ true → Free c s
   pub words : (s : State) (c i v : ℕ) → c < 16 → i < 8 → Exists c i → (i ≡ 3 → stepping s c ≡ false) → Free c s → is_taken (write_of s (word_address c i) v).answer ≡ true
@@ -152,18 +152,18 @@ pub record Takes : Type 0 where
       → is_taken (write_of s (register_address i) v).answer ≡ true
   -- CIER, HSQR, CPR and CISR are always taken; so is a missing word, and nothing changes
   pub others : (s : State) (i v : ℕ) → ((i ≡ 0) ⊎ ((5 ≤ i) × (i ≤ 6))) ⊎ ((9 ≤ i) × (i ≤ 11)) → is_taken (write_of s (register_address i) v).answer ≡ true
-  pub missing : (s : State) (c i v : ℕ) → c < 14 → 6 ≤ i → i < 8 → write_of s (word_address c i) v ≡ record { answer = Taken; state = s }
+  pub missing : (s : State) (c i v : ℕ) → c < 14 → 6 ≤ i → i < 8 → write_of s (word_address c i) v ≡ record { answer = Ok tt; state = s }
   -- the numbers else: 1 for an address that is not in document 01's list, where it may be read too (paper 02, #108), and nothing changes; 2 for
   -- a word or a CFSR field of a channel that is not free, 3 for a further request of another function
-  pub outside : (s : State) (a v : ℕ) → (Listed a → ⊥) → write_of s a v ≡ record { answer = Refused 1; state = s }
+  pub outside : (s : State) (a v : ℕ) → (Listed a → ⊥) → write_of s a v ≡ record { answer = Err NoSuchAddress; state = s }
   pub word_number : (s : State) (c i v : ℕ) → c < 16 → i < 8 → Exists c i → (i ≡ 3 → stepping s c ≡ false) → (Free c s → ⊥)
-      → (write_of s (word_address c i) v).answer ≡ Refused 2
+      → (write_of s (word_address c i) v).answer ≡ Err NotFree
   pub functions-number : (s : State) (i v j : ℕ) → 1 ≤ i → i ≤ 4 → j / 4 ≡ 4 - i → field 4 v (4 * (j % 4)) ≢ field 4 (reg s i) (4 * (j % 4)) → (Free j s → ⊥)
-      → (write_of s (register_address i) v).answer ≡ Refused 2
+      → (write_of s (register_address i) v).answer ≡ Err NotFree
   pub again-number : (s : State) (c v : ℕ) → AsksOne 3 c v → stepping s c ≡ true → pending c s ≡ 0 → (Stepper c s → ⊥)
-      → (write_of s (request_address c) v).answer ≡ Refused 3
+      → (write_of s (request_address c) v).answer ≡ Err OtherFunction
   -- whatever its group does, a channel with a pending request gets 2
-  pub busy : (s : State) (c v : ℕ) → AsksOne 3 c v → pending c s ≢ 0 → (write_of s (request_address c) v).answer ≡ Refused 2
+  pub busy : (s : State) (c v : ℕ) → AsksOne 3 c v → pending c s ≢ 0 → (write_of s (request_address c) v).answer ≡ Err NotFree
   pub step-numbers : (s : State) (c v : ℕ) → AsksOne 3 c v → stepping s c ≡ false → StepNumbers c s (write_of s (request_address c) v).answer
   pub initialise-numbers : (s : State) (c v : ℕ) → AsksOne 2 c v → InitialiseNumbers c s (write_of s (request_address c) v).answer
-  pub advance-number : (s : State) (n : ℕ) (lent : List ℕ) → (4096 < n) ⊎ (length lent < n) → (advance_of s n lent).answer ≡ Refused 10
+  pub advance-number : (s : State) (n : ℕ) (lent : List ℕ) → (4096 < n) ⊎ (length lent < n) → (advance_of s n lent).answer ≡ Err TooManyTicks

@@ -1,6 +1,6 @@
 -- How long the printed bytes are.
 use Prim.Native.Nat.{ℕ, zero, suc, ◌+◌, ◌*◌, ◌≤◌}
-use mathlib.Core.Bool.{true, false}
+use Rattle.std.proofs.Common.{Some, None}
 use mathlib.Core.List.{List}
 use native.Mathlib.Omega.{arith}
 use lib.ListN.{length, length-append}
@@ -15,7 +15,7 @@ use Rattle.wave.specs.Claims.{Short}
 
 changes-short : (tick : ℕ) (old s : State) → length (changes tick old s) ≤ 413
 unfolding changes ascii
-changes-short tick old s = simp length-append (omega (arith, decimal-short.1 tick, values-short false old s))
+changes-short tick old s = simp length-append (omega (arith, decimal-short.1 tick, values-short (Some old) s))
 
 -- ---- the header
 
@@ -35,7 +35,7 @@ unfolding header ascii
 header-short =
     let p = declarations-short 16 1 97 (ascii "pin") (omega arith) in
     let q = declarations-short 16 16 65 (ascii "position") (omega arith) in
-    let v = values-short true reset_state reset_state in
+    let v = values-short None reset_state in
     simp length-append (omega arith)
 
 pub short : Short

@@ -1,5 +1,5 @@
 -- What is drawn of one tick.
-use Rattle.std.specs.Prelude.{ℕ, false, List, ◌++◌}
+use Rattle.std.specs.Prelude.{ℕ, Some, List, ◌++◌}
 use Rattle.unit.specs.declared.State.{State}
 use Rattle.text.specs.Ascii.{ascii}
 use Rattle.text.specs.Printing.{decimal}
@@ -7,4 +7,4 @@ use Rattle.signals.specs.Signals.{values}
 
 -- what one tick changes: `#`, its number, and the values that differ
 unfoldable pub changes : ℕ → State → State → List ℕ
-changes tick old s = ascii "#" ++ (decimal tick ++ (ascii "\n" ++ values false old s))
+changes tick old s = ascii "#" ++ (decimal tick ++ (ascii "\n" ++ values (Some old) s))

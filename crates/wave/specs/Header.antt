@@ -1,5 +1,5 @@
 -- The head of the file: the signals' names, and the values at reset.
-use Rattle.std.specs.Prelude.{ℕ, zero, suc, ◌+◌, true, List, [], ◌∷◌, ◌++◌}
+use Rattle.std.specs.Prelude.{ℕ, zero, suc, ◌+◌, None, List, [], ◌∷◌, ◌++◌}
 use Rattle.unit.specs.TheUnit.{reset_state}
 use Rattle.text.specs.Ascii.{ascii}
 use Rattle.text.specs.Printing.{decimal}
@@ -23,4 +23,4 @@ header =
     ++ (ascii "$var wire 16 ! tcr1 $end\n"
     ++ (declarations 16 16 65 (ascii "position")
     ++ (ascii "$var wire 1 \" interrupt $end\n$upscope $end\n$enddefinitions $end\n#0\n$dumpvars\n"
-    ++ (values true reset_state reset_state ++ ascii "$end\n")))))
+    ++ (values None reset_state ++ ascii "$end\n")))))

@@ -1,22 +1,20 @@
-use borrow.Author.Tests.{eq-eqb, ne_eqb}
-use mathlib.Core.Path.{refl}
-use borrow.Author.Rules.{rules}
+use mathlib.Core.Logic.{◌≢◌}
+use native.Mathlib.Omega.{arith}
+use borrow.Author.Tests.{ne_eqb}
 use Rattle.unit.specs.Gate.{requested}
 use Rattle.binding.proofs.requested.Goals as goal
 
-pub returns-then-r-eq2 : goal.returns-then-r-eq2
+pub returns-in-2 : goal.returns-in-2
 unfolding requested
-returns-then-r-eq2 c =
-    let p = c.put_request.ensures in
-    (p.0, rw (eq-eqb _ _ c.if-r-eq2.true) p.1)
+returns-in-2 c = rw c.in-2.is c.put_request.ensures
 
-pub returns-then-r-ne3 : goal.returns-then-r-ne3
+pub returns-in-3 : goal.returns-in-3
 unfolding requested
-returns-then-r-ne3 c = (search rules, rw (ne_eqb _ 2 c.if-r-eq2.false, ne_eqb _ 3 c.if-r-ne3.true) refl)
+returns-in-3 c = rw (c.in-3.is, ← c.bind_at_rest.ensures) c.put_request-in-3.ensures
 
-pub returns : goal.returns
+pub returns-in_default : goal.returns-in_default
 unfolding requested
-returns c =
-    let p = c.put_request-2.ensures in
-    let b = c.bind_at_rest.ensures in
-    (p.0, rw (ne_eqb _ 2 c.if-r-eq2.false, eq-eqb _ 3 c.if-r-ne3.false, ← b.1) p.1)
+returns-in_default c =
+    let two : c.args.r ≢ 2 = λ e. omega arith in
+    let three : c.args.r ≢ 3 = λ e. omega arith in
+    rw (ne_eqb _ 2 two, ne_eqb _ 3 three)

@@ -1,4 +1,4 @@
-use Rattle.std.proofs.Common.{sym, ◌∙◌, ◌<◌, ◌≤◌, arith, le-ltb, lt-ltb}
+use Rattle.std.proofs.Common.{sym, ◌∙◌, le-ltb, lt-ltb}
 use Rattle.blocks.specs.Finding.{better}
 use Rattle.blocks.proofs.FindingLaws.{unfit-stays}
 use Rattle.blocks.proofs.better.Goals as goal
@@ -6,21 +6,19 @@ use Rattle.blocks.proofs.better.Goals as goal
 pub returns-then-not-fits : goal.returns-then-not-fits
 returns-then-not-fits c = rw (unfit-stays _ _ _ _ (sym c.fits.ensures ∙ c.if-not-fits.true))
 
-pub returns-then-rank : goal.returns-then-rank
+pub returns-in-Some : goal.returns-in-Some
 unfolding better
-returns-then-rank c =
+returns-in-Some c =
     let fit = sym c.fits.ensures ∙ c.if-not-fits.false in
-    let above : c.rank.result < c.rank-in-At.result = omega arith in
-    rw (c.in-At.is, fit, ← c.rank.ensures, ← c.rank-in-At.ensures, lt-ltb _ _ above)
+    rw (c.in-Some.is, fit, ← c.rank-here.ensures, ← c.rank.ensures, le-ltb _ _ c.if-here-rank.true)
 
-pub returns-in-Missing : goal.returns-in-Missing
+pub returns-in-Some-2 : goal.returns-in-Some-2
 unfolding better
-returns-in-Missing c =
-    rw (c.in-Missing.is, sym c.fits.ensures ∙ c.if-not-fits.false)
-
-pub returns-else-rank : goal.returns-else-rank
-unfolding better
-returns-else-rank c =
+returns-in-Some-2 c =
     let fit = sym c.fits.ensures ∙ c.if-not-fits.false in
-    let not-above : c.rank-in-At.result ≤ c.rank.result = omega arith in
-    rw (c.in-At.is, fit, ← c.rank.ensures, ← c.rank-in-At.ensures, le-ltb _ _ not-above)
+    rw (c.in-Some.is, fit, ← c.rank-here.ensures, ← c.rank.ensures, lt-ltb _ _ c.if-here-rank.false)
+
+pub returns-in-None : goal.returns-in-None
+unfolding better
+returns-in-None c =
+    rw (c.in-None.is, sym c.fits.ensures ∙ c.if-not-fits.false)

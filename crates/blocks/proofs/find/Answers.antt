@@ -1,18 +1,15 @@
-use Rattle.std.proofs.Common.{◌≡◌, refl, add-one, arith}
-use Rattle.blocks.specs.Finding.{found_below, found}
-use Rattle.blocks.specs.Blocks.{count}
+use Rattle.std.proofs.Common.{arith, refl, ap, ◌∙◌, add-one, rules}
+use Rattle.std.proofs.lemmas.Iterator.{YieldsList-from_range}
+use Rattle.std.proofs.lemmas.Iterator.Consumers.{fold_from_yields_List}
+use Rattle.blocks.specs.Finding.{better, found_below, found}
+use Rattle.blocks.proofs.RangeLaws.{fold-to}
 use Rattle.blocks.proofs.find.Goals as goal
 
-pub loop-k-init : goal.loop-k-init
-unfolding found_below
-loop-k-init c = (c.count-k-end.ensures, omega arith, refl)
-
-pub loop-k-preserved : goal.loop-k-preserved
-unfolding found_below
-loop-k-preserved c = (c.loop-k.invariant.0, omega arith, rw (add-one, c.better-best.ensures, ← c.loop-k.invariant.2))
-
 pub returns : goal.returns
-unfolding found
+unfolding found found_below
 returns c =
-    let e : c.loop-k.k ≡ count c.args.store.now = omega arith in
-    rw (← e) c.loop-k.invariant.2
+    let next = better c.args.store.now c.args.w in
+    fold_from_yields_List _ next _ _ c.fold.ensures.ran (YieldsList-from_range 0 c.count.result c.count.result refl (omega arith))
+    (λ best k f g h. search rules)
+    ∙ fold-to next (found_below c.args.store.now c.args.w) (λ n. rw add-one refl) c.count.result
+    ∙ ap (found_below c.args.store.now c.args.w) c.count.ensures

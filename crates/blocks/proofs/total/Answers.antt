@@ -1,16 +1,14 @@
-use Rattle.std.proofs.Common.{◌≡◌, refl, add-one, arith}
-use Rattle.blocks.specs.Blocks.{sum}
+use Rattle.std.proofs.Common.{◌%◌, ◌+◌, refl, ◌∙◌, add-one, arith, rules}
+use Rattle.std.proofs.lemmas.Iterator.{YieldsList-from_range}
+use Rattle.std.proofs.lemmas.Iterator.Consumers.{fold_from_yields_List}
+use Rattle.blocks.specs.Blocks.{word_in, sum}
+use Rattle.blocks.proofs.RangeLaws.{fold-to}
 use Rattle.blocks.proofs.total.Goals as goal
 
-pub loop-i-init : goal.loop-i-init
-unfolding sum
-loop-i-init c = (omega arith, refl)
-
-pub loop-i-preserved : goal.loop-i-preserved
-unfolding sum
-loop-i-preserved c = (omega arith, rw (add-one, c.wrapping_add_u16-t.ensures.value, c.word.ensures) (omega arith))
-
 pub returns : goal.returns
+unfolding sum
 returns c =
-    let e : c.loop-i.i ≡ 255 = omega arith in
-    rw (← e) c.loop-i.invariant.1
+    let words = word_in c.args.store.now c.args.k in
+    fold_from_yields_List _ (λ t i. (t + words i) % 65536) _ _ c.fold.ensures.ran (YieldsList-from_range 0 255 255 refl refl)
+    (λ t i u f h. search rules)
+    ∙ fold-to (λ t i. (t + words i) % 65536) (λ n. sum words n % 65536) (λ n. rw add-one (omega arith)) 255

@@ -6,4 +6,5 @@ use Rattle.board.proofs.HistoryLaws.{board-history}
 use Rattle.board.proofs.histories.Goals as goal
 
 pub returns : goal.returns
-returns c = (addresses, saves, loads, round_trip loads, board-history)
+returns c =
+    record { addresses = addresses; saves = saves; loads = loads; round_trip = round_trip loads; history = board-history }

@@ -7,10 +7,10 @@ unfolding stored
 returns-then-at-eq0 c =
     let u = c.uninitialise.ensures in
     let w = c.put_word.ensures in
-    (u.0, rw (eq-eqb _ _ c.if-at-eq0.true, ← w.1) u.1)
+    rw (eq-eqb _ _ c.if-at-eq0.true, ← w) u
 
 pub returns-else-at-eq0 : goal.returns-else-at-eq0
 unfolding stored
 returns-else-at-eq0 c =
     let w = c.put_word.ensures in
-    (w.0, rw (ne_eqb _ _ c.if-at-eq0.false, ← w.1))
+    rw (ne_eqb _ _ c.if-at-eq0.false, ← w)

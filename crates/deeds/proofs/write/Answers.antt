@@ -1,23 +1,25 @@
 use mathlib.Core.Path.{refl, sym, subst, ◌∙◌}
-use borrow.Author.Rules.{rules}
+use Rattle.std.proofs.lemmas.Result.{err_from_is_err_and}
 use Rattle.unit.specs.Calls.{answered_by}
 use Rattle.deeds.proofs.Good.{VerdictGood, gate-good}
 use Rattle.deeds.proofs.Numbered.{write-told}
 use Rattle.deeds.proofs.write.Goals as goal
 
+pub returns-in_err-deed : goal.returns-in_err-deed
+unfolding answered_by
+returns-in_err-deed c =
+    let p = err_from_is_err_and c.from_residual.result c.from_residual.ensures.1 in
+    let e = c.in_err-deed.was in
+    let w = write-told _ _ _ _ _ _ c.verdict.ensures.verdict (rw (p.1, p.2, e) refl) (rw e refl) in
+    record { answer = w.0; state = w.1; number = w.2 }
+
 pub done-requires : goal.done-requires
 unfolding VerdictGood
-done-requires c = (search rules, subst VerdictGood (sym c.verdict-v.ensures.0 ∙ c.in-Taken.is) (gate-good _ _ _))
+done-requires c = subst VerdictGood (sym c.verdict.ensures.verdict ∙ c.in_ok-deed.was) (gate-good _ _ _)
 
-pub returns-in-Refused : goal.returns-in-Refused
+pub returns : goal.returns
 unfolding answered_by
-returns-in-Refused c =
-    let e = c.in-Refused.is in
-    write-told _ _ _ _ _ _ c.verdict-v.ensures.0 (rw e refl) (search rules, rw e refl)
-
-pub returns-in-Taken : goal.returns-in-Taken
-unfolding answered_by
-returns-in-Taken c =
-    let d = c.done.ensures in
-    let e = c.in-Taken.is in
-    write-told _ _ _ _ _ _ c.verdict-v.ensures.0 (rw e refl) (d.0, rw e d.1)
+returns c =
+    let e = c.in_ok-deed.was in
+    let w = write-told _ _ _ _ _ _ c.verdict.ensures.verdict (rw e refl) (rw e c.done.ensures) in
+    record { answer = w.0; state = w.1; number = w.2 }

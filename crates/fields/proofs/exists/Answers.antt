@@ -1,11 +1,11 @@
+use borrow.Author.Tests.{le-leb, lt-leb}
 use Rattle.unit.specs.TheUnit.{exists}
-use Rattle.words.proofs.ChoiceLaws.{cases}
 use Rattle.fields.proofs.exists.Goals as goal
 
 pub returns-then-c-ge14 : goal.returns-then-c-ge14
 unfolding exists
-returns-then-c-ge14 c = search cases
+returns-then-c-ge14 c = rw (le-leb 14 _ c.if-c-ge14.true)
 
-pub returns : goal.returns
+pub returns-else-c-ge14 : goal.returns-else-c-ge14
 unfolding exists
-returns c = search cases
+returns-else-c-ge14 c = rw (lt-leb 14 _ c.if-c-ge14.false)

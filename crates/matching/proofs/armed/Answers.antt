@@ -3,7 +3,6 @@ use Rattle.words.specs.declared.Past.{Past}
 use Rattle.words.specs.Clock.{due}
 use Rattle.words.proofs.ChoiceLaws.{takes_first, takes-second}
 use Rattle.unit.specs.OneTick.{match_of}
-use borrow.Author.Rules.{rules}
 use Rattle.matching.proofs.armed.Goals as goal
 
 pub returns-then-t : goal.returns-then-t
@@ -12,7 +11,7 @@ returns-then-t c =
     let now = c.time_for-now.ensures in
     let time = c.args.time in
     let is = ap (λ (x : Past). x.due) c.past-t.ensures ∙ ap (λ k. due k time) now in
-    (c.happen.ensures.0, takes_first _ _ _ _ _ is c.if-t.true (c.happen.ensures.1 ∙ rw (c.pins_out.ensures.1, c.way-way.ensures, now)))
+    takes_first _ _ _ _ _ is c.if-t.true (c.happen.ensures ∙ rw (c.pins_out.ensures, c.way-way.ensures, now))
 
 pub returns-else-t : goal.returns-else-t
 unfolding match_of due
@@ -20,4 +19,4 @@ returns-else-t c =
     let now = c.time_for-now.ensures in
     let time = c.args.time in
     let is = ap (λ (x : Past). x.due) c.past-t.ensures ∙ ap (λ k. due k time) now in
-    (search rules, takes-second _ _ _ _ _ is c.if-t.false refl)
+    takes-second _ _ _ _ _ is c.if-t.false refl

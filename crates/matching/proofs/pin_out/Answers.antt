@@ -5,4 +5,4 @@ use Rattle.matching.proofs.pin_out.Goals as goal
 pub returns : goal.returns
 unfolding pin_out
 returns c =
-    (c.put_pin.ensures.0, c.put_pin.ensures.1 ∙ rw c.level-on.ensures)
+    c.put_pin.ensures ∙ rw c.level-on.ensures

@@ -1,22 +1,19 @@
-use mathlib.Core.Path.{◌≡◌}
+use mathlib.Core.Path.{◌≡◌, sym, ◌∙◌}
+use Prim.Native.Nat.{suc, ◌-◌}
 use native.Mathlib.Omega.{arith}
-use native.Mathlib.Numerals.{add-one}
 use lib.ListN.{length}
-use borrow.Author.Rules.{rules}
+use Rattle.std.specs.Prelude.{None}
 use Rattle.numeral.specs.Decimal.{numeral_of}
-use Rattle.numeral.proofs.NumeralLaws.{small-numeral}
+use Rattle.numeral.proofs.NumeralLaws.{small_read, none-stays}
 use Rattle.numeral.proofs.scan.Goals as goal
 
-pub loop-i-init : goal.loop-i-init
+pub with_byte-requires : goal.with_byte-requires
+with_byte-requires c = small_read c.loop-b.b-index c.args.text.now c.loop-b.n c.loop-b.invariant
+
+pub returns-in_err-n : goal.returns-in_err-n
 unfolding numeral_of
-loop-i-init c = search rules
-
-pub with_byte-n-requires : goal.with_byte-n-requires
-with_byte-n-requires c = rw c.loop-i.invariant.1 (small-numeral c.loop-i.i c.args.text.now)
-
-pub loop-i-preserved : goal.loop-i-preserved
-unfolding numeral_of
-loop-i-preserved c = (omega arith, rw (add-one, c.with_byte-n.ensures, c.loop-i.invariant.1))
-
-pub returns : goal.returns
-returns c = let e : c.loop-i.i ≡ length c.args.text.now = omega arith in rw (← e) c.loop-i.invariant.1
+returns-in_err-n c =
+    let text = c.args.text.now in
+    let i = c.loop-b.b-index in
+    let e : numeral_of (suc i) text ≡ None = rw c.loop-b.invariant (sym c.with_byte.ensures ∙ c.in_err-n.was) in
+    c.from_residual.ensures ∙ sym (none-stays text (length text - suc i) (suc i) (length text) (omega arith) e)

@@ -1,12 +1,10 @@
+use Rattle.std.proofs.Common.{◌^◌, ◌<◌}
+use Rattle.std.proofs.iter.Serving.{serving}
 use native.Mathlib.Omega.{arith}
-use borrow.Author.Rules.{rules}
-use Rattle.numeral.specs.Decimal.{with_digit}
-use Rattle.numeral.proofs.NumeralLaws.{digit-range}
+use Rattle.numeral.proofs.NumeralLaws.{room_below}
 use Rattle.numeral.proofs.with_digit.Goals as goal
 
-pub overflow_sub-result : goal.overflow_sub-result
-overflow_sub-result c = let d = digit-range c.args.b c.requires.b_value in omega arith
-
-pub returns : goal.returns
-unfolding with_digit
-returns c = search rules
+pub then-requires : goal.then-requires
+then-requires c =
+    let r : (c.args.count < 15 → c.args.whole < 10 ^ 14) = λ h. room_below c.args.count c.args.whole h c.requires in
+    grind (serving, arith, r)

@@ -14,4 +14,4 @@ returns c =
     let l : length c.args.s.now ≡ 211 = search rules in
     let w = first-tabled (word_in s) 0 s 128 (omega arith) (λ i h. refl) in
     let r = first-tabled (reg_in s) 0 (drop 128 s) 12 (rw length-drop (omega arith)) (λ i h. sym (get_or-drop 128 s i 0)) in
-    rw (w, r, c.copy.ensures, c.copy-2.ensures, c.channels_in-channels.ensures, c.slots_in.ensures)
+    rw (w, r, c.copy_from_slice.ensures.after, c.copy_from_slice-2.ensures.after, c.timers.ensures, c.pins.ensures, c.channels_in.ensures, c.slots.ensures)

@@ -1,10 +1,9 @@
-use Prim.Native.Nat.{◌-◌, ◌^◌, ◌≤◌, ◌<◌}
-use mathlib.Core.Path.{◌≡◌}
-use Rattle.parse.specs.Parsing.{number_at}
+use Rattle.std.proofs.Common.{◌≡◌, ◌^◌, ◌<◌, drop}
+use Rattle.parse.specs.Parsing.{number_after, number_of}
 use Rattle.parse.proofs.number.Given as goal
 
-abbrev pub invariant-loop-k : goal.invariant-loop-k
-invariant-loop-k l = (l.k ≤ l.n) × (l.v ≡ number_at l.k l.base l.line l.at) × (l.v < l.base ^ l.k)
-
-abbrev pub decreases-loop-k : goal.decreases-loop-k
-decreases-loop-k l = l.n - l.k
+abbrev pub invariant-loop-b : goal.invariant-loop-b
+invariant-loop-b l = record {
+  same : number_after l.base l.n (drop l.b-index l.digits) ≡ number_of l.base l.digits;
+  small : l.n < l.base ^ l.b-index;
+}

@@ -10,6 +10,6 @@ pub returns-then-n-lt10 : goal.returns-then-n-lt10
 returns-then-n-lt10 t c =
     rw (digits-small _ _ c.if-more-eq0.false c.if-n-lt10.true) c.digit-then-n-lt10.ensures
 
-pub returns : goal.returns
-returns t c =
-    rw (digits-large c.args.more c.args.n c.if-more-eq0.false (omega arith)) (also c.digits-a.ensures c.digit-2.ensures)
+pub returns-else-n-lt10 : goal.returns-else-n-lt10
+returns-else-n-lt10 t c =
+    rw (digits-large c.args.more c.args.n c.if-more-eq0.false (omega arith)) (also c.digits.ensures c.digit-else-n-lt10.ensures)

@@ -4,8 +4,4 @@ use Rattle.printing.proofs.number_line.Goals as goal
 
 pub returns : goal.returns
 unfolding number_line
-returns c =
-    let last = c in
-    let second = last in
-    let first = second in
-    also first.pair-a.ensures (also second.decimal-b.ensures last.put.ensures)
+returns c = also c.pair.ensures (also c.decimal.ensures c.put.ensures)

@@ -4,9 +4,4 @@ use Rattle.printing.proofs.word.Goals as goal
 
 pub returns : goal.returns
 unfolding hex_word
-returns c =
-    let last = c in
-    let third = last in
-    let second = third in
-    let first = second in
-    also first.digit-a.ensures (also second.digit-b.ensures (also third.digit-c.ensures last.digit.ensures))
+returns c = rw (← c.from-n.ensures) (also c.digit.ensures (also c.digit-2.ensures (also c.digit-3.ensures c.digit-4.ensures)))

@@ -6,6 +6,6 @@ pub returns-then-timing-eq4 : goal.returns-then-timing-eq4
 unfolding is_timed
 returns-then-timing-eq4 c = rw (← c.timing-timing.ensures, eq-eqb _ _ c.if-timing-eq4.true)
 
-pub returns : goal.returns
+pub returns-else-timing-eq4 : goal.returns-else-timing-eq4
 unfolding is_timed
-returns c = rw (← c.timing-timing.ensures, ne_eqb _ _ c.if-timing-eq4.false)
+returns-else-timing-eq4 c = rw (← c.timing-timing.ensures, ne_eqb _ 4 c.if-timing-eq4.false)

@@ -1,23 +1,14 @@
 use Rattle.unit.specs.TheUnit.{channel_control, pin_control}
 use Rattle.unit.specs.Gate.{may_initialise}
 use Rattle.questions.proofs.may_initialise.Goals as goal
+use Rattle.questions.proofs.may_initialise.Goals.{then-bit, else-bit}
 
-pub returns-then-not-is_timed : goal.returns-then-not-is_timed
+pub returns-then-is_timed : goal.returns-then-is_timed
 unfolding may_initialise channel_control pin_control
-returns-then-not-is_timed c =
-    let t = c.is_timed in
-    rw (← c.word-control.ensures, ← t.ensures, c.if-not-is_timed.true)
+returns-then-is_timed c =
+    rw (← c.word-control.ensures, ← c.is_timed.ensures, c.if-is_timed.true, ← c.word.ensures, ← c.bit.ensures)
+    (elim c.if-bit.branch [ then-bit w ↦ rw (w.forced-is, c.pair.ensures, w.if-bit.true) | else-bit w ↦ rw (w.forced-is, c.pair.ensures, w.if-bit.false) ])
 
-pub returns-then-bit : goal.returns-then-bit
+pub returns-else-is_timed : goal.returns-else-is_timed
 unfolding may_initialise channel_control pin_control
-returns-then-bit c =
-    let w = c.word-control in
-    let t = c.is_timed in
-    rw (c.pair.ensures, ← w.ensures, ← t.ensures, c.if-not-is_timed.false, ← c.word.ensures, ← c.bit.ensures, c.if-bit.true)
-
-pub returns : goal.returns
-unfolding may_initialise channel_control pin_control
-returns c =
-    let w = c.word-control in
-    let t = c.is_timed in
-    rw (c.pair-2.ensures, ← w.ensures, ← t.ensures, c.if-not-is_timed.false, ← c.word.ensures, ← c.bit.ensures, c.if-bit.false)
+returns-else-is_timed c = rw (← c.word-control.ensures, ← c.is_timed.ensures, c.if-is_timed.false)

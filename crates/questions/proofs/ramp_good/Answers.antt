@@ -2,10 +2,10 @@ use borrow.Author.Tests.{le-leb, lt-leb}
 use Rattle.unit.specs.Gate.{ramp_good}
 use Rattle.questions.proofs.ramp_good.Goals as goal
 
-pub returns-then-period-lt1 : goal.returns-then-period-lt1
+pub returns-then-period-ge1 : goal.returns-then-period-ge1
 unfolding ramp_good
-returns-then-period-lt1 c = rw (← c.period.ensures, lt-leb 1 _ c.if-period-lt1.true)
+returns-then-period-ge1 c = rw (← c.period.ensures, le-leb 1 _ c.if-period-ge1.true, c.period-then-period-ge1.ensures)
 
-pub returns : goal.returns
+pub returns-else-period-ge1 : goal.returns-else-period-ge1
 unfolding ramp_good
-returns c = rw (← c.period.ensures, le-leb 1 _ c.if-period-lt1.false, c.period-2.ensures)
+returns-else-period-ge1 c = rw (← c.period.ensures, lt-leb 1 _ c.if-period-ge1.false)

@@ -10,4 +10,4 @@ unfolding shows_pattern channel_control pin_control
 returns c =
     let a = c.args in
     let e : a.m % 16 ≡ a.m = omega arith in
-    rw (c.rotate.ensures.0, c.word-2.ensures, c.word.ensures, e)
+    rw (c.rotate.ensures.right, c.word-2.ensures, c.word.ensures, e)

@@ -1,40 +1,39 @@
-use Prim.Native.Nat.{◌<◌}
-use native.Mathlib.Omega.{arith}
-use borrow.Author.Tests.{le-leb, lt-leb, lt-ltb, le-ltb}
-use Rattle.unit.proofs.Access.{last-small}
-use Rattle.unit.specs.Gate.{span_good}
+use mathlib.Core.Bool.{◌&&◌}
+use mathlib.Core.Path.{◌≡◌}
+use lib.Dec.{leb}
+use Rattle.unit.specs.TheUnit.{word, top}
+use Rattle.unit.specs.Gate.{otherwise_zero, span_good}
+use Rattle.pack.specs.Packing.{state_in}
+use Rattle.questions.proofs.Chains.{goes, ends, above}
 use Rattle.questions.proofs.span_good.Goals as goal
+use Rattle.questions.proofs.span_good.Goals.{then-otherwise_zero, else-otherwise_zero}
 
-pub returns-then-not-otherwise_zero : goal.returns-then-not-otherwise_zero
+pub returns-then-between : goal.returns-then-between
 unfolding span_good
-returns-then-not-otherwise_zero c = rw (← c.word.ensures, ← c.otherwise_zero.ensures, c.if-not-otherwise_zero.true)
+returns-then-between c =
+    let s = state_in c.args.s.now in
+    let a = c.args.c.number in
+    let zero = otherwise_zero (word s a 5) in
+    let rate = leb 1 (top s a) && leb (top s a) 14 in
+    let one : c.otherwise_zero.result ≡ zero = rw (← c.word.ensures) c.otherwise_zero.ensures in
+    let two : c.if-otherwise_zero.value ≡ (zero && rate) =
+    elim c.if-otherwise_zero.branch [
+      | then-otherwise_zero w ↦ goes _ _ _ _ _ one w.if-otherwise_zero.true w.value-is (rw (← w.top.ensures) w.between.ensures)
+      | else-otherwise_zero w ↦ ends _ _ _ _ one w.if-otherwise_zero.false w.value-is
+    ] in
+    rw (← two, c.if-between.true, c.between-then-between.ensures, c.last.ensures, above)
 
-pub returns-then-n-lt1 : goal.returns-then-n-lt1
+pub returns-else-between : goal.returns-else-between
 unfolding span_good
-returns-then-n-lt1 c =
-    let q = c.otherwise_zero in
-    rw (← c.word.ensures, ← q.ensures, c.if-not-otherwise_zero.false, ← c.top-n.ensures, lt-leb 1 _ c.if-n-lt1.true)
-
-pub returns-then-n-gt-MAX_RATE : goal.returns-then-n-gt-MAX_RATE
-unfolding span_good
-returns-then-n-gt-MAX_RATE c =
-    let q = c.otherwise_zero in
-    rw (← c.word.ensures, ← q.ensures, c.if-not-otherwise_zero.false, ← c.top-n.ensures, le-leb 1 _ c.if-n-lt1.false, lt-leb _ 14 c.if-n-gt-MAX_RATE.true)
-
-pub returns-then-l-c : goal.returns-then-l-c
-unfolding span_good
-returns-then-l-c c =
-    let q = c.otherwise_zero in
-    rw (← c.word.ensures, ← q.ensures, c.if-not-otherwise_zero.false, ← c.top-n.ensures, le-leb 1 _ c.if-n-lt1.false, le-leb c.top-n.result 14 (omega arith), ← c.last-l.ensures, le-ltb _ _ c.if-l-c.true)
-
-pub overflow_add-result : goal.overflow_add-result
-overflow_add-result c =
-    let l = c.last-l in
-    let h : l.result < 16 = rw l.ensures (last-small _ _) in
-    omega (arith, h)
-
-pub returns : goal.returns
-unfolding span_good
-returns c =
-    let q = c.otherwise_zero in
-    rw (← c.word.ensures, ← q.ensures, c.if-not-otherwise_zero.false, ← c.top-n.ensures, le-leb 1 _ c.if-n-lt1.false, le-leb c.top-n.result 14 (omega arith), ← c.last-l.ensures, lt-ltb _ _ c.if-l-c.false)
+returns-else-between c =
+    let s = state_in c.args.s.now in
+    let a = c.args.c.number in
+    let zero = otherwise_zero (word s a 5) in
+    let rate = leb 1 (top s a) && leb (top s a) 14 in
+    let one : c.otherwise_zero.result ≡ zero = rw (← c.word.ensures) c.otherwise_zero.ensures in
+    let two : c.if-otherwise_zero.value ≡ (zero && rate) =
+    elim c.if-otherwise_zero.branch [
+      | then-otherwise_zero w ↦ goes _ _ _ _ _ one w.if-otherwise_zero.true w.value-is (rw (← w.top.ensures) w.between.ensures)
+      | else-otherwise_zero w ↦ ends _ _ _ _ one w.if-otherwise_zero.false w.value-is
+    ] in
+    rw (← two, c.if-between.false)

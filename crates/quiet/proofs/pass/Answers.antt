@@ -2,8 +2,9 @@ use Rattle.quiet.proofs.pass.Goals as goal
 
 pub returns : goal.returns
 returns c =
-    let e = c.present.ensures in (
-      (c.put_slots.ensures.0, rw (c.put_slots.ensures.1, c.idled.ensures, c.put_timers.ensures.1, c.slots-slots.ensures, c.onward-timers.ensures, e.0)),
-      rw (← e.0) e.1,
-      rw (← e.0) e.2,
-    )
+    let e = c.present.ensures in
+    record {
+      state = rw (c.put_slots.ensures, c.idled.ensures, c.put_timers.ensures, c.slots-slots.ensures, c.onward-timers.ensures, e.timers);
+      tcr1 = rw (← e.timers) e.tcr1;
+      tcr2 = rw (← e.timers) e.tcr2;
+    }

@@ -5,7 +5,7 @@ use mir.Val.{Fits}
 use native.Mathlib.Numerals.{add-one}
 use native.Mathlib.Omega.{arith}
 use mathlib.Core.Path.{◌≡◌, refl, sym, ◌∙◌}
-use Prim.Native.Nat.{ℕ, ◌+◌, ◌-◌, ◌≤◌, min}
+use Prim.Native.Nat.{ℕ, ◌+◌, ◌≤◌, min}
 use Rattle.unit.specs.declared.State.{State}
 use Rattle.unit.specs.Quiet.{quiet_at, quiet_below}
 use Rattle.unit.proofs.Quiet.{none_below}
@@ -29,18 +29,18 @@ pub returns-then-q-eq0 : goal.returns-then-q-eq0
 returns-then-q-eq0 c =
     let l = c.loop-c in
     let a = c.args in
-    none_left (state_in a.s.now) (l.c + 1) a.room c.lesser-q.result (omega arith)
-    (next (state_in a.s.now) l.c l.q _ _ l.invariant.1 c.quiet_at.ensures c.lesser-q.ensures) c.if-q-eq0.true
+    none_left (state_in a.s.now) (l.c + 1) a.room c.min-q.result (omega arith)
+    (next (state_in a.s.now) l.c l.q _ _ l.invariant.1 c.quiet_at.ensures c.min-q.ensures) c.if-q-eq0.true
 
 pub loop-c-preserved : goal.loop-c-preserved
 loop-c-preserved c =
     let l = c.loop-c in
     let a = c.args in
-    (omega arith, next (state_in a.s.now) l.c l.q _ _ l.invariant.1 c.quiet_at.ensures c.lesser-q.ensures)
+    (omega arith, next (state_in a.s.now) l.c l.q _ _ l.invariant.1 c.quiet_at.ensures c.min-q.ensures)
 
 pub overflow_cast-result : goal.overflow_cast-result
 overflow_cast-result c =
-    let h : c.lesser.result ≤ c.args.room = rw c.lesser.ensures (min-le_right _ _) in
+    let h : c.min.result ≤ c.args.room = rw (c.min.ensures, c.from.ensures) (min-le_right _ _) in
     let f : Fits w16 c.args.room = search rules in
     omega (arith, h, f)
 
@@ -48,4 +48,4 @@ pub returns : goal.returns
 returns c =
     let l = c.loop-c in
     let e : l.c ≡ 16 = omega arith in
-    rw (c.lesser.ensures, l.invariant.1, e)
+    rw (c.min.ensures, c.from.ensures, l.invariant.1, e)

@@ -1,6 +1,5 @@
 use Prim.Native.Nat.{◌-◌}
-use native.Mathlib.Omega.{arith}
-use mathlib.Core.Path.{ap}
+use mathlib.Core.Path.{ap, ◌∙◌}
 use borrow.Author.Tests.{le-leb, lt-leb}
 use Rattle.unit.specs.Quiet.{until_due}
 use Rattle.quiet.proofs.until_due.Goals as goal
@@ -9,12 +8,8 @@ pub returns-then-ahead-gt32768 : goal.returns-then-ahead-gt32768
 unfolding until_due
 returns-then-ahead-gt32768 c = rw (← c.time_by.ensures, ← c.since-ahead.ensures, lt-leb _ _ c.if-ahead-gt32768.true)
 
-pub returns-then-ticks-eq0 : goal.returns-then-ticks-eq0
-unfolding until_due
-returns-then-ticks-eq0 c =
-    rw (← c.time_by.ensures, ← c.since-ahead.ensures, le-leb _ _ c.if-ahead-gt32768.false) (omega (arith, c.ticks_until-ticks.ensures))
-
 pub returns : goal.returns
 unfolding until_due
 returns c =
-    rw (← c.time_by.ensures, ← c.since-ahead.ensures, le-leb _ _ c.if-ahead-gt32768.false) (ap (λ k. k - 1) c.ticks_until-ticks.ensures)
+    rw (← c.time_by.ensures, ← c.since-ahead.ensures, le-leb _ _ c.if-ahead-gt32768.false)
+    (c.saturating_sub.ensures ∙ ap (λ k. k - 1) c.ticks_until.ensures)

@@ -4,4 +4,4 @@ use Rattle.registers.proofs.cfsr_of.Goals as goal
 
 pub returns : goal.returns
 unfolding cfsr_of
-returns c = (omega arith, omega arith)
+returns c = record { word = omega arith; register = omega arith }

@@ -3,4 +3,4 @@ use Rattle.registers.proofs.function.Goals as goal
 
 pub returns : goal.returns
 unfolding function
-returns c = rw (c.nibble.ensures, c.reg.ensures, c.cfsr_of.ensures.0)
+returns c = rw (c.nibble.ensures, c.reg.ensures, c.cfsr_of.ensures.word)

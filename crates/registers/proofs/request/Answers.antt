@@ -1,6 +1,6 @@
-use Rattle.unit.specs.TheUnit.{request}
+use Rattle.unit.specs.TheUnit.{request, hsrr_of}
 use Rattle.registers.proofs.request.Goals as goal
 
 pub returns : goal.returns
-unfolding request
-returns c = rw (c.pair.ensures, c.reg.ensures, c.hsrr_of.ensures.0)
+unfolding request hsrr_of
+returns c = rw (c.pair.ensures, c.reg.ensures, c.half_of.ensures.word)

@@ -3,7 +3,8 @@ use Rattle.requests.proofs.Passed.{asks-lone}
 use borrow.Author.Rules.{rules}
 use Rattle.requests.proofs.asked.Goals as goal
 
-pub returns-then-k-lt8 : goal.returns-then-k-lt8
-returns-then-k-lt8 c =
+pub returns-in-Some : goal.returns-in-Some
+returns-in-Some c =
     let a = c.args in
-    (_, c.ask_channel.ensures ∙ rw c.pair.ensures (sym (asks-lone a.a a.v _ _ (search rules) c.if-k-lt8.true (c.lone-k.ensures c.if-k-lt8.true))))
+    let n = c.in-Some.ensures in
+    (_, c.ask_channel.ensures ∙ rw c.pair.ensures (sym (asks-lone a.a a.v _ _ (search rules) n.0 n.1)))

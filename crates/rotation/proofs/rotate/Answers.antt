@@ -31,4 +31,4 @@ returns c =
     let w = c.args.w in
     let places = c.args.places in
     let e = joined w (places % 16) (omega arith) (omega arith) in
-    (e, rw e (turned w places (omega arith)))
+    record { right = e; turned = rw e (turned w places (omega arith)) }

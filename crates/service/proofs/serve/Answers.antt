@@ -5,4 +5,4 @@ use Rattle.service.proofs.serve.Goals as goal
 pub returns : goal.returns
 unfolding served
 returns c =
-    (c.match_served.ensures.0, c.match_served.ensures.1 ∙ rw (c.request_served.ensures.1, c.phase-p.ensures))
+    c.match_served.ensures ∙ rw (c.request_served.ensures, c.phase-p.ensures)

@@ -3,4 +3,4 @@ use Rattle.service.proofs.tested.Goals as goal
 
 pub returns : goal.returns
 returns c =
-    (c.outcome.ensures.0, c.outcome.ensures.1 ∙ rw (c.on_request-o.ensures, c.motor_of.ensures, c.time_for-now.ensures))
+    c.outcome.ensures ∙ rw (c.on_request-o.ensures, c.motor_of.ensures, c.time_for-now.ensures)

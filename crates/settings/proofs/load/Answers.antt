@@ -3,10 +3,14 @@ use Rattle.keeping.specs.Keeping.{load_from, load_of}
 use Rattle.settings.proofs.AnswerLaws.{loaded}
 use Rattle.settings.proofs.load.Goals as goal
 
-pub returns-in-No : goal.returns-in-No
+pub returns-in-Err : goal.returns-in-Err
 unfolding load_of load_from
-returns-in-No c = loaded _ _ _ _ (rw (← c.chosen-c.ensures, c.in-No.is) refl)
+returns-in-Err c =
+    let is = loaded _ _ _ _ (rw (← c.chosen.ensures, c.in-Err.is) refl) in
+    record { loaded = is.loaded; number = is.number; version = is.version }
 
-pub returns-in-Block : goal.returns-in-Block
+pub returns-in-Ok : goal.returns-in-Ok
 unfolding load_of
-returns-in-Block c = loaded _ _ _ _ (rw (c.from.ensures, ← c.chosen-c.ensures, c.in-Block.is) refl)
+returns-in-Ok c =
+    let is = loaded _ _ _ _ (rw (c.from.ensures, ← c.chosen.ensures, c.in-Ok.is) refl) in
+    record { loaded = is.loaded; number = is.number; version = is.version }

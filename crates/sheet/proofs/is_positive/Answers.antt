@@ -4,8 +4,4 @@ use Rattle.sheet.proofs.is_positive.Goals as goal
 
 pub returns-then-x : goal.returns-then-x
 unfolding is_positive of_bits
-returns-then-x c = rw c.if-x.true c.is_below_infinity.ensures
-
-pub returns : goal.returns
-unfolding is_positive of_bits
-returns c = rw c.if-x.false
+returns-then-x c = rw c.if-x.true

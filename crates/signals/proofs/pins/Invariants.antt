@@ -1,12 +1,6 @@
-use Prim.Native.Nat.{◌-◌, ◌≤◌}
-use mathlib.Core.Path.{◌≡◌}
-use lib.ListN.{length}
 use Rattle.text.specs.Placing.{Wrote}
 use Rattle.signals.specs.Signals.{pin_values}
 use Rattle.signals.proofs.pins.Given as goal
 
 abbrev pub invariant-loop-c : goal.invariant-loop-c
-invariant-loop-c l = (l.c ≤ 16) × (length l.out ≡ length l.initial.out) × Wrote l.initial.out l.at (pin_values l.c l.all l.old l.w) l.next l.out
-
-abbrev pub decreases-loop-c : goal.decreases-loop-c
-decreases-loop-c l = 16 - l.c
+invariant-loop-c l = Wrote l.initial.page (pin_values l.c-counter l.old l.pins) l.page

@@ -1,18 +1,12 @@
-use mathlib.Core.Bool.{not}
-use mathlib.Core.Path.{ap}
+use Rattle.std.proofs.Common.{sym, ◌∙◌}
 use Rattle.text.proofs.PlacingLaws.{also, nothing}
 use Rattle.signals.specs.Signals.{vector_line, vector_value}
-use Rattle.signals.proofs.SignalsLaws.{unwanted, wanted}
 use Rattle.signals.proofs.vector_value.Goals as goal
 
-pub returns-then-not-all-old : goal.returns-then-not-all-old
+pub returns-then-eq : goal.returns-then-eq
 unfolding vector_value
-returns-then-not-all-old c =
-    let a = c.args in
-    rw (unwanted a.all a.old a.v (ap not c.if-not-all-old.true)) (nothing _ _)
+returns-then-eq c = rw (sym c.eq.ensures ∙ c.if-eq.true) (nothing _)
 
 pub returns : goal.returns
 unfolding vector_value vector_line
-returns c =
-    let a = c.args in
-    rw (wanted a.all a.old a.v (ap not c.if-not-all-old.false)) (also c.vector-a.ensures c.bytes.ensures)
+returns c = rw (sym c.eq.ensures ∙ c.if-eq.false) (also c.vector.ensures c.text.ensures)

@@ -5,4 +5,4 @@ use Rattle.stepping.proofs.counted.Goals as goal
 pub returns : goal.returns
 unfolding position
 returns c =
-    (c.put_word-2.ensures.0, c.put_word-2.ensures.1 ∙ rw (c.put_word.ensures.1, c.counted-w.ensures, c.word-2.ensures, c.beside-place.ensures, c.word.ensures))
+    c.put_word-2.ensures ∙ rw (c.put_word.ensures, c.counted-w.ensures, c.word-2.ensures, c.beside-place.ensures, c.word.ensures)

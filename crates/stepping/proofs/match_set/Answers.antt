@@ -11,7 +11,7 @@ returns-then-t c =
     let now = c.time_for-now.ensures in
     let time = c.args.time in
     let is = ap (λ (x : Past). x.due) c.past-t.ensures ∙ ap (λ k. due k time) now in
-    (c.happen.ensures.0, takes_first _ _ _ _ _ is c.if-t.true (c.happen.ensures.1 ∙ rw (c.pins_out.ensures.1, now)))
+    takes_first _ _ _ _ _ is c.if-t.true (c.happen.ensures ∙ rw (c.pins_out.ensures, now))
 
 pub returns : goal.returns
 unfolding match_set due
@@ -19,4 +19,4 @@ returns c =
     let now = c.time_for-now.ensures in
     let time = c.args.time in
     let is = ap (λ (x : Past). x.due) c.past-t.ensures ∙ ap (λ k. due k time) now in
-    (c.arm.ensures.0, takes-second _ _ _ _ _ is c.if-t.false c.arm.ensures.1)
+    takes-second _ _ _ _ _ is c.if-t.false c.arm.ensures

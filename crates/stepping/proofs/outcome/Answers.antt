@@ -5,9 +5,9 @@ use Rattle.stepping.proofs.outcome.Goals as goal
 pub returns-in-Arrived : goal.returns-in-Arrived
 unfolding outcome
 returns-in-Arrived c =
-    (c.put_status.ensures.0, rw c.in-Arrived.is (c.put_status.ensures.1 ∙ rw c.rest.ensures.1))
+    rw c.in-Arrived.is (c.put_status.ensures ∙ rw c.rest.ensures)
 
 pub returns-in-Step : goal.returns-in-Step
 unfolding outcome
 returns-in-Step c =
-    (c.stepped.ensures.0, rw c.in-Step.is c.stepped.ensures.1)
+    rw c.in-Step.is c.stepped.ensures

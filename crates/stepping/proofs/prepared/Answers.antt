@@ -6,4 +6,4 @@ use Rattle.stepping.proofs.prepared.Goals as goal
 pub returns : goal.returns
 unfolding prepared channel_control pin_control
 returns c =
-    (c.put_level.ensures.0, c.put_level.ensures.1 ∙ rw (c.bit.ensures, c.put_word.ensures.1, c.reloaded-w.ensures, c.word-2.ensures, c.turned_once-x.ensures, c.word.ensures))
+    c.put_level.ensures ∙ rw (c.bit.ensures, c.put_word.ensures, c.reloaded-w.ensures, c.word-2.ensures, c.turned_once-x.ensures, c.word.ensures)

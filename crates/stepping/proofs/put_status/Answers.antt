@@ -7,5 +7,5 @@ use Rattle.stepping.proofs.put_status.Goals as goal
 pub returns : goal.returns
 unfolding with_status
 returns c =
-    let e : c.args.c % 16 ≡ c.args.c = omega arith in
-    (c.put_reg.ensures.0, c.put_reg.ensures.1 ∙ rw (c.with_bit-w.ensures, c.reg.ensures, e))
+    let e : c.args.c.number % 16 ≡ c.args.c.number = omega arith in
+    c.put_reg.ensures ∙ rw (c.with_bit-w.ensures, c.reg.ensures, e)

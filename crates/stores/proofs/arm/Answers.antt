@@ -1,11 +1,7 @@
 use native.Mathlib.Omega.{arith}
-use lib.ListN.{length-set}
 use Rattle.stores.proofs.Puts.{arm-put}
 use borrow.Author.Rules.{rules}
 use Rattle.stores.proofs.arm.Goals as goal
-
-pub bounds-s-c : goal.bounds-s-c
-bounds-s-c c = rw length-set (omega arith)
 
 pub returns : goal.returns
 returns c = rw c.standing.ensures (arm-put _ (search rules) _ (omega arith) _ _)

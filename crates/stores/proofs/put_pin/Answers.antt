@@ -6,5 +6,5 @@ use borrow.Author.Rules.{rules}
 use Rattle.stores.proofs.put_pin.Goals as goal
 
 pub returns : goal.returns
-returns c = let e : c.args.c % 16 ≡ c.args.c = omega arith in
+returns c = let e : c.args.c.number % 16 ≡ c.args.c.number = omega arith in
     rw (c.with_bit.ensures, e) (pin-put _ (search rules) _ _)

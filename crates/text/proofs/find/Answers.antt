@@ -1,21 +1,17 @@
-use Prim.Native.Nat.{◌-◌}
-use mathlib.Core.Path.{refl, sym, ◌∙◌}
-use native.Mathlib.Omega.{arith}
-use Rattle.text.proofs.FindingLaws.{found_here, found-later, found_none}
+use Rattle.std.proofs.Common.{rules, tests, ◌≡◌, ℕ, ◌+◌, ◌-◌, ◌==◌, List, length, drop, take, ap, ◌∙◌, length-drop}
+use lib.Seq.{take-length}
+use Rattle.std.proofs.lemmas.Iterator.{YieldsList-from_slice}
+use Rattle.std.proofs.lemmas.Iterator.Search.{position_from_yields_List}
+use Rattle.text.specs.Finding.{first_from}
 use Rattle.text.proofs.find.Goals as goal
 
-pub loop-i-init : goal.loop-i-init
-loop-i-init c = (omega arith, omega arith, refl)
+-- what is left from a place on is the whole slice from it
+to_end : (block : List ℕ) (at : ℕ) → take (length block - at) (drop at block) ≡ drop at block
+to_end block at = rw (← length-drop at block) (take-length (drop at block))
 
-pub returns-then-block-i : goal.returns-then-block-i
-returns-then-block-i c =
-    let l = c.loop-i in
-    (sym (found_here _ l.i _ (omega arith) c.if-block-i.true) ∙ l.invariant.2, omega arith, omega arith)
-
-pub loop-i-preserved : goal.loop-i-preserved
-loop-i-preserved c =
-    let l = c.loop-i in
-    (omega arith, omega arith, found-later _ l.i _ (omega arith) c.if-block-i.false ∙ l.invariant.2)
-
-pub returns : goal.returns
-returns c = let l = c.loop-i in (sym (found_none _ l.i _ (omega arith)) ∙ l.invariant.2, omega arith, omega arith)
+pub returns-clause-found : goal.returns-clause-found
+unfolding first_from
+returns-clause-found c =
+    let rest = take (length c.args.block.now - c.args.at) (drop c.args.at c.args.block.now) in
+    let p = position_from_yields_List {all = rest} (λ (x : ℕ). x == c.args.b) _ _ c.position.result c.position.ensures.ran (YieldsList-from_slice _ cc) (λ x b q k. search (rules, tests)) in
+    ap (λ i. c.args.at + i) (c.unwrap_or.ensures ∙ rw p (rw (to_end c.args.block.now c.args.at)))

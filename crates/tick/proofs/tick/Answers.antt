@@ -5,4 +5,4 @@ use Rattle.tick.proofs.tick.Goals as goal
 pub returns : goal.returns
 unfolding tick service_in matches
 returns c =
-    (c.serve_next.ensures.0, c.serve_next.ensures.1 ∙ rw (c.match_all.ensures.1, c.clocked.ensures.1))
+    c.serve_next.ensures ∙ rw (c.match_all.ensures, c.clocked.ensures)

@@ -13,10 +13,7 @@ use Rattle.ticks.proofs.run.Goals as goal
 
 pub loop-i-init : goal.loop-i-init
 unfolding after_ticks pin_words
-loop-i-init c = (omega arith, c.requires.1, c.requires.2, refl, (c.requires.0, refl), refl, refl)
-
-pub onward-k-requires : goal.onward-k-requires
-onward-k-requires c = (c.loop-i.invariant.4.0, omega arith)
+loop-i-init c = (omega arith, c.requires.most, c.requires.room, refl, refl, refl)
 
 pub fill-requires : goal.fill-requires
 fill-requires c = simp (length-take, length-drop) (omega arith)
@@ -28,18 +25,19 @@ loop-i-preserved c =
     let s = state_in a.s.now in
     let k = c.onward-k.result in
     let e = c.onward-k.ensures in
-    let after : after_ticks k (state_in l.s) ≡ after_ticks (l.i + k) s = ap (after_ticks k) l.invariant.4.1 ∙ after-add k l.i s in
-    let shown = c.pins.ensures ∙ ap (λ (t : State). t.pins) e.2.1 in
+    let i = l.invariant in
+    let after : after_ticks k (state_in l.s) ≡ after_ticks (l.i + k) s = ap (after_ticks k) i.4 ∙ after-add k l.i s in
+    let shown = c.pins.ensures ∙ ap (λ (t : State). t.pins) e.state in
     let words : pin_words l.i s ++ replicate k c.pins.result ≡ pin_words (l.i + k) s =
-    ap (λ x. pin_words l.i s ++ x) (ap (replicate k) shown ∙ sym e.3 ∙ ap (pin_words k) l.invariant.4.1) ∙ pins-add k l.i s in
+    ap (λ x. pin_words l.i s ++ x) (ap (replicate k) shown ∙ sym e.pins ∙ ap (pin_words k) i.4) ∙ pins-add k l.i s in
     let put : put_mid l.i (length l.lent - l.i) l.lent c.fill.new.rest ≡ pin_words (l.i + k) s ++ drop (l.i + k) a.lent.now =
-    rest-done (pin_words l.i s) (replicate k c.pins.result) a.lent.now l.lent _ l.i k l.invariant.6 (pin-words-long l.i s) c.fill.ensures
+    rest-done (pin_words l.i s) (replicate k c.pins.result) a.lent.now l.lent _ l.i k i.5 (pin-words-long l.i s) c.fill.ensures
     ∙ ap (λ x. x ++ drop (l.i + k) a.lent.now) words in
-    let room : l.i + k ≤ a.n = omega (arith, e.1) in
-    (room, l.invariant.1, l.invariant.2, ap length put ∙ lent-long (l.i + k) s a.lent.now (omega (arith, room, l.invariant.2)), (e.2.0, e.2.1 ∙ after), e.2.0 ∙ sym l.invariant.4.0 ∙ l.invariant.5, put)
+    let room : l.i + k ≤ a.n = omega (arith, e.room) in
+    (room, i.1, i.2, ap length put ∙ lent-long (l.i + k) s a.lent.now (omega (arith, room, i.2)), e.state ∙ after, put)
 
 pub returns : goal.returns
 returns c =
     let l = c.loop-i in
     let e : l.i ≡ c.args.n = omega arith in
-    rw (← e) (l.invariant.4, l.invariant.6)
+    rw (← e) (record { state = l.invariant.4; pins = l.invariant.5 })

@@ -3,5 +3,6 @@ use Rattle.tpu.proofs.advance.Goals as goal
 
 pub returns : goal.returns
 returns c =
-    let s = c.pack.ensures.1 in
-    (rw (c.advance-answer.ensures.0, c.unpack-next.ensures, c.advance-answer.ensures.1.1, s) refl, rw (← s) c.advance-answer.ensures.2, c.advance-answer.ensures.3)
+    let s = c.pack.ensures in
+    let w = c.advance-answer.ensures in
+    record { answered = rw (w.answer, c.unpack.ensures, w.state, s) refl; pins = rw (← s) w.pins; number = w.number }

@@ -3,5 +3,6 @@ use Rattle.tpu.proofs.write.Goals as goal
 
 pub returns : goal.returns
 returns c =
-    let s = c.pack.ensures.1 in
-    (rw (c.write-answer.ensures.0, c.unpack-next.ensures, c.write-answer.ensures.1.1, s) refl, rw (← s) c.write-answer.ensures.2)
+    let s = c.pack.ensures in
+    let w = c.write-answer.ensures in
+    record { answered = rw (w.answer, c.unpack.ensures, w.state, s) refl; number = rw (← s) w.number }

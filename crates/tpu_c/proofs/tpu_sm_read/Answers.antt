@@ -6,14 +6,14 @@ use Rattle.tpu_c.specs.Numbers.{read_answer, read_word, joined}
 use Rattle.tpu_c.proofs.Held.{whole, unpacked-whole}
 use Rattle.tpu_c.proofs.tpu_sm_read.Goals as goal
 
-pub returns-then-state-ne-WORDS : goal.returns-then-state-ne-WORDS
+pub returns-in_default : goal.returns-in_default
 unfolding read_answer read_word joined is_whole
-returns-then-state-ne-WORDS c =
-    let e = ne_eqb _ 211 c.if-state-ne-WORDS.true in
-    (rw (e) refl, rw (e) (omega arith))
+returns-in_default c =
+    rw (ne_eqb _ 211 c.in_default.ensures.cases) (record { halves = refl; word = omega arith })
 
 pub returns : goal.returns
 unfolding read_answer read_word
 returns c =
-    let l = c.if-state-ne-WORDS.false in
-    rw (whole _ l, unpacked-whole _ l, ← c.read.ensures.0) c.both_halves.ensures
+    let all = c.in-Some.ensures.cases in
+    let b = c.both_halves.ensures in
+    rw (whole _ all.long, unpacked-whole _ all.long, ← all.same, ← c.read.ensures.reading) (record { halves = b.halves; word = b.word })

@@ -9,11 +9,10 @@ use Rattle.tpu_c.proofs.tpu_sm_reset.Goals as goal
 pub returns-then-state-ne-WORDS : goal.returns-then-state-ne-WORDS
 unfolding reset_answer laid is_whole
 returns-then-state-ne-WORDS c =
-    let e = ne_eqb _ 211 c.if-state-ne-WORDS.true in
-    (rw (e) refl, rw (e) refl, reset-zeros)
+    rw (ne_eqb _ 211 c.if-state-ne-WORDS.true) (record { answer = refl; words = refl; zeros = reset-zeros })
 
 pub returns : goal.returns
 unfolding reset_answer
 returns c =
     let l = c.if-state-ne-WORDS.false in
-    (rw (whole _ l) refl, cleared _ _ l c.fill.ensures, reset-zeros)
+    record { answer = rw (whole _ l) refl; words = cleared _ _ l (c.fill.ensures.after (λ y e. e)); zeros = reset-zeros }

@@ -5,5 +5,4 @@ use Rattle.wave.proofs.changes.Goals as goal
 
 pub returns : goal.returns
 unfolding changes ascii
-returns c =
-    also c.put-a.ensures (also c.decimal-b.ensures (also c.put-c.ensures c.values.ensures))
+returns c = also c.put.ensures (also c.decimal.ensures (also c.put-2.ensures c.values.ensures))

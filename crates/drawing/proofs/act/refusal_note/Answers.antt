@@ -5,5 +5,4 @@ use Rattle.drawing.proofs.act.refusal_note.Goals as goal
 
 pub returns : goal.returns
 unfolding refusal_note ascii
-returns c =
-    also c.bytes-a.ensures (also c.decimal-b.ensures c.bytes.ensures)
+returns c = also c.text.ensures (also (rw (c.from.ensures, c.number.ensures) at c.decimal.ensures) c.text-2.ensures)

@@ -1,6 +1,5 @@
 use borrow.Author.Rules.{rules}
 use mathlib.Core.Path.{◌≡◌, refl, ◌∙◌}
-use Prim.Native.Nat.{◌-◌}
 use native.Mathlib.Nat.{le_of_eq}
 use native.Mathlib.Omega.{arith}
 use lib.ListN.{length, take, length-set}
@@ -26,4 +25,4 @@ returns c =
     let z : length c.args.channels ≡ 16 = search rules in
     let e : l.i ≡ 16 = omega arith in
     let p : tabulate 16 (latches_in l.s) ≡ take 16 c.args.channels = rw (← e) l.invariant.2 in
-    (l.invariant.1, p ∙ take_all 16 _ (le_of_eq z))
+    p ∙ take_all 16 _ (le_of_eq z)

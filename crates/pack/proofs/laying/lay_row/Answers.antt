@@ -10,4 +10,4 @@ unfolding row_laid
 returns c =
     let a = c.args in
     let e : a.at + length a.row.now - a.at ≡ length a.row.now = omega arith in
-    rw (e, c.copy.ensures)
+    rw (e, c.copy_from_slice.ensures.after)

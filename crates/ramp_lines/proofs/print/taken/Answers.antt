@@ -5,6 +5,6 @@ use Rattle.ramp_lines.proofs.print.taken.Goals as goal
 pub returns : goal.returns
 unfolding taken
 returns c =
-    also c.pair-a.ensures
-    (also c.word-b.ensures
-    (also c.put-c.ensures (also c.word-d.ensures (also c.periods-e.ensures c.put.ensures))))
+    also c.pair.ensures
+    (also c.word.ensures
+    (also c.put.ensures (also c.word-2.ensures (also c.periods.ensures c.put-2.ensures))))

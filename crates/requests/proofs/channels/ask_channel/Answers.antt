@@ -1,15 +1,20 @@
+use mathlib.Core.Logic.{◌≢◌}
+use native.Mathlib.Omega.{arith}
 use borrow.Author.Tests.{ne_eqb}
 use Rattle.unit.specs.Gate.{ask_channel, requested}
 use Rattle.requests.proofs.channels.ask_channel.Goals as goal
 
-pub returns-then-r-eq2 : goal.returns-then-r-eq2
+pub returns-in-2 : goal.returns-in-2
 unfolding ask_channel
-returns-then-r-eq2 c = rw c.if-r-eq2.true c.ask_initialise.ensures
+returns-in-2 c = rw c.in-2.is c.ask_initialise.ensures
 
-pub returns-then-r-eq3 : goal.returns-then-r-eq3
+pub returns-in-3 : goal.returns-in-3
 unfolding ask_channel
-returns-then-r-eq3 c = rw c.if-r-eq3.true c.ask_step.ensures
+returns-in-3 c = rw c.in-3.is c.ask_step.ensures
 
-pub returns : goal.returns
+pub returns-in_default : goal.returns-in_default
 unfolding ask_channel requested
-returns c = rw (ne_eqb _ _ c.if-r-eq2.false, ne_eqb _ _ c.if-r-eq3.false)
+returns-in_default c =
+    let two : c.args.r ≢ 2 = λ e. omega arith in
+    let three : c.args.r ≢ 3 = λ e. omega arith in
+    rw (ne_eqb _ 2 two, ne_eqb _ 3 three)

@@ -1,38 +1,32 @@
-use borrow.Author.Rules.{rules}
-use mathlib.Core.Path.{◌≡◌, refl, sym, ap, ◌∙◌}
-use Prim.Native.Nat.{◌+◌, ◌-◌}
+use Rattle.std.proofs.Common.{◌≡◌, ◌+◌, ◌-◌}
+use mathlib.Core.Path.{refl, sym, ◌∙◌, subst}
 use native.Mathlib.Omega.{arith}
 use native.Mathlib.Numerals.{add-one}
-use lib.ListN.{length}
-use Rattle.unit.specs.Gate.{and_then, ask_channel, ask_channels}
+use Rattle.std.proofs.lemmas.Result.{err_from_is_err_and}
+use Rattle.unit.specs.Gate.{Yes, No, requested, ask_channel, ask_channels}
+use Rattle.pack.specs.Packing.{state_in}
 use Rattle.requests.specs.Told.{told}
-use Rattle.requests.proofs.Passed.{asks_nothing}
-use Rattle.pack.specs.Packing.{state_words, state_in}
-use Rattle.requests.specs.Told.{told}
-use Rattle.requests.proofs.Passed.{asks_nothing}
-use Rattle.pack.specs.Packing.{state_words, state_in}
+use Rattle.requests.proofs.Passed.{asked-next, asked-no}
 use Rattle.requests.proofs.channels.ask_channels.Goals as goal
-use Rattle.requests.proofs.channels.ask_channels.Goals.{then-r-ge2, else-r-ge2}
 
-pub loop-k-init : goal.loop-k-init
+pub loop-c-init : goal.loop-c-init
 unfolding ask_channels
-loop-k-init c = (omega arith, search rules, refl)
+loop-c-init c =
+    let none : c.args.a - c.args.a ≡ 0 = omega arith in
+    (omega arith, omega arith, rw none refl)
 
-pub loop-k-preserved : goal.loop-k-preserved
-unfolding ask_channels
-loop-k-preserved c =
-    let l = c.loop-k in
-    let a = c.args in
-    let r = c.pair-r.result in
-    let done = ask_channels l.k a.a a.v (state_in a.s.now) in
-    let next : (length c.if-r-ge2.s ≡ state_words) × (told c.if-r-ge2.t (state_in c.if-r-ge2.s) ≡ and_then done (ask_channel r (a.a + l.k))) =
-    elim c.if-r-ge2.branch [
-      | then-r-ge2 w ↦ (rw w.s-is w.ask_next-t.ensures.0, rw (w.s-is, w.t-is) (w.ask_next-t.ensures.1 ∙ ap (λ x. and_then x (ask_channel r (a.a + l.k))) l.invariant.2))
-      | else-r-ge2 w ↦ (rw w.s-is l.invariant.1, rw (w.s-is, w.t-is) (l.invariant.2 ∙ sym (asks_nothing done r (a.a + l.k) w.if-r-ge2.false)))
-    ] in
-    (omega arith, next.0, rw (add-one, ← c.pair-r.ensures) next.1)
+pub returns-in_err-ask_channel : goal.returns-in_err-ask_channel
+returns-in_err-ask_channel c =
+    let l = c.loop-c in
+    let p = err_from_is_err_and c.from_residual.result c.from_residual.ensures.1 in
+    let no = sym (subst (λ x. told x (requested (state_in l.s) l.c c.pair-r.result) ≡ ask_channel c.pair-r.result l.c (state_in l.s)) c.in_err-ask_channel.was c.ask_channel.ensures) in
+    let one = asked-next _ _ l.c _ _ _ l.invariant.0 c.pair-r.ensures l.invariant.2 ∙ no in
+    let all : c.args.a + 7 - l.c + (l.c + 1 - c.args.a) ≡ 8 = omega (arith, l.invariant.0, l.invariant.1) in
+    rw (p.1, p.2) (sym (subst (λ n. ask_channels n c.args.a c.args.v (state_in c.args.s.now) ≡ No c.in_err-ask_channel.field-0.0) all (asked-no _ _ _ _ _ (c.args.a + 7 - l.c) (rw add-one one))))
 
-pub returns : goal.returns
-returns c =
-    let e : c.loop-k.k ≡ 8 = omega arith in
-    rw (← e) c.loop-k.invariant.2
+pub loop-c-preserved : goal.loop-c-preserved
+loop-c-preserved c =
+    let l = c.loop-c in
+    let yes = sym (subst (λ x. told x (requested (state_in l.s) l.c c.pair-r.result) ≡ ask_channel c.pair-r.result l.c (state_in l.s)) c.in_ok-ask_channel.was c.ask_channel.ensures) in
+    let one = asked-next _ _ l.c _ _ _ l.invariant.0 c.pair-r.ensures l.invariant.2 ∙ yes in
+    (omega arith, omega arith, rw (add-one, c.requested.ensures) one)

@@ -1,7 +1,7 @@
 use Rattle.requests.proofs.channels.is_again.Goals as goal
 
-pub returns-then-not-stepping : goal.returns-then-not-stepping
-returns-then-not-stepping c = rw (← c.stepping.ensures, c.if-not-stepping.true)
+pub returns-then-stepping : goal.returns-then-stepping
+returns-then-stepping c = rw (← c.stepping.ensures, c.if-stepping.true, c.request.ensures)
 
-pub returns : goal.returns
-returns c = rw (← c.stepping.ensures, c.if-not-stepping.false, c.request.ensures)
+pub returns-else-stepping : goal.returns-else-stepping
+returns-else-stepping c = rw (← c.stepping.ensures, c.if-stepping.false)

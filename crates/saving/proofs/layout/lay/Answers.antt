@@ -1,4 +1,4 @@
-use Rattle.std.proofs.Common.{◌≡◌, ◌-◌, length, sym, refl, ap, ◌∙◌, add-one, arith}
+use Rattle.std.proofs.Common.{◌≡◌, length, sym, refl, ap, ◌∙◌, add-one, arith}
 use Rattle.blocks.specs.Blocks.{laid, sum}
 use Rattle.blocks.proofs.WordLaws.{laid-length}
 use Rattle.keeping.proofs.LayoutLaws.{block-word}
@@ -15,7 +15,7 @@ loop-i-preserved c = (
   omega arith,
   laid_next _ _ _ _ _ _ _ c.loop-i.invariant.1 c.put.ensures
       (c.held-w.ensures ∙ sym (block-word _ _ _ (omega arith))),
-  rw (add-one, c.wrapping_add_u16-total.ensures.value, c.held-w.ensures) (omega arith),
+  rw (add-one, c.held-w.ensures) (omega arith),
 )
 
 pub returns : goal.returns

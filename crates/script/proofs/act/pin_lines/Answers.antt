@@ -1,25 +1,20 @@
-use Rattle.std.proofs.Common.{◌≡◌, ◌-◌, refl, ◌∙◌, add-one, arith}
+use Rattle.std.proofs.Common.{◌≡◌, ◌+◌, ◌%◌, ◌^◌, refl, add-one, arith}
 use Rattle.script.specs.Replying.{word_before, pin_lines}
 use Rattle.text.proofs.PlacingLaws.{nothing}
 use Rattle.script.proofs.ReplyingLaws.{next-line}
 use Rattle.script.proofs.act.pin_lines.Goals as goal
 
-pub loop-i-init : goal.loop-i-init
+pub loop-w-init : goal.loop-w-init
 unfolding word_before pin_lines
-loop-i-init c = (omega arith, refl, refl, nothing _ _)
+loop-w-init c = record { counted = omega arith; last = refl; wrote = nothing _ }
 
-pub loop-i-preserved : goal.loop-i-preserved
+pub loop-w-preserved : goal.loop-w-preserved
 unfolding word_before
-loop-i-preserved c =
-    let l = c.loop-i in (
-      omega arith,
-      c.pin_line-at.auto.out ∙ l.invariant.1,
-      rw add-one,
-      next-line l.i _ _ _ _ _ _ _ _ _ _ c.wrapping_add_u64-tick.ensures.value l.invariant.2 l.invariant.3 c.pin_line-at.ensures,
-    )
-
-pub shape_of-out : goal.shape_of-out
-shape_of-out c = c.loop-i.invariant.1
-
-pub returns : goal.returns
-returns c = let e : c.loop-i.i ≡ c.args.n = omega arith in rw (← e) c.loop-i.invariant.3
+loop-w-preserved c =
+    let l = c.loop-w in
+    let next : (l.tick + 1) % 2 ^ 64 ≡ (c.args.ticks + (l.w-index + 1)) % 2 ^ 64 = omega (arith, l.invariant.counted) in
+    record {
+      counted = next;
+      last = rw add-one;
+      wrote = next-line l.w-index _ _ _ _ _ next l.invariant.last l.invariant.wrote c.pin_line.ensures;
+    }

@@ -5,10 +5,10 @@ use Rattle.script.proofs.print.pin_line.Goals as goal
 
 pub returns-then-w-before : goal.returns-then-w-before
 unfolding pin_line
-returns-then-w-before c = rw (eq-eqb _ _ c.if-w-before.true) (nothing _ _)
+returns-then-w-before c = rw (eq-eqb _ _ c.if-w-before.true) (nothing _)
 
 pub returns : goal.returns
 unfolding pin_line
 returns c =
     rw (ne_eqb _ _ c.if-w-before.false)
-    (also c.pair-a.ensures (also c.decimal-b.ensures (also c.put-c.ensures (also c.word-d.ensures c.put.ensures))))
+    (also c.text.ensures (also c.decimal.ensures (also c.put.ensures (also c.word.ensures c.put-2.ensures))))

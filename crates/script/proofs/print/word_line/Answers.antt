@@ -4,5 +4,4 @@ use Rattle.script.proofs.print.word_line.Goals as goal
 
 pub returns : goal.returns
 unfolding word_line
-returns c =
-    also c.pair-a.ensures (also c.word-b.ensures c.put.ensures)
+returns c = also c.text.ensures (also c.word.ensures c.put.ensures)

@@ -1,22 +1,16 @@
-use Prim.Native.Nat.{◌-◌}
-use native.Mathlib.Omega.{arith}
-use mathlib.Core.Path.{◌≡◌, refl}
-use Rattle.unit.specs.TheUnit.{all}
+use Rattle.std.proofs.Common.{refl, ◌∙◌, rules}
+use Rattle.std.proofs.lemmas.Iterator.{YieldsList-from_range}
+use Rattle.std.proofs.lemmas.Iterator.Search.{all_from_yields_List}
+use Rattle.unit.specs.Gate.{is_free}
+use Rattle.pack.specs.Packing.{state_in}
 use Rattle.keeping.specs.Keeping.{all_free}
-use Rattle.settings.proofs.AnswerLaws.{free-next}
+use Rattle.settings.proofs.AnswerLaws.{all-asked}
 use Rattle.settings.proofs.loading.all_free.Goals as goal
-
-pub loop-c-init : goal.loop-c-init
-unfolding all
-loop-c-init c = (omega arith, c.pack.ensures.0, refl)
-
-pub loop-c-preserved : goal.loop-c-preserved
-loop-c-preserved c =
-    let l = c.loop-c in
-    (omega arith, l.invariant.1, free-next _ _ _ _ l.invariant.2 c.is_free-free.ensures)
 
 pub returns : goal.returns
 unfolding all_free
 returns c =
-    let e : c.loop-c.c ≡ 16 = omega arith in
-    rw (← e, ← c.pack.ensures.1) c.loop-c.invariant.2
+    let free = is_free (state_in c.pack.new.s) in
+    rw (← c.pack.ensures)
+    (all_from_yields_List free _ _ _ c.all.ensures.ran (YieldsList-from_range 0 16 16 refl refl) (λ n b f h. search rules)
+    ∙ all-asked free 0 16)

@@ -1,25 +1,18 @@
-use Prim.Native.Nat.{◌+◌, ◌-◌, ◌≤◌}
-use native.Mathlib.Omega.{arith}
-use mathlib.Core.Path.{◌≡◌, refl}
-use Rattle.unit.specs.Calls.{run}
-use Rattle.keeping.specs.Layout.{setting_writes, load_calls}
+use Rattle.std.proofs.Common.{ℕ, refl, ◌+◌, ◌∙◌, rules}
+use Rattle.std.proofs.lemmas.Iterator.{YieldsList-from_range}
+use Rattle.std.proofs.lemmas.Iterator.Consumers.{fold_from_yields_List}
+use Rattle.unit.specs.declared.State.{State}
+use Rattle.unit.specs.Calls.{write_of, run}
+use Rattle.blocks.specs.Blocks.{word_in}
+use Rattle.blocks.proofs.RangeLaws.{fold-to}
+use Rattle.keeping.specs.Layout.{setting_address, setting_writes, load_calls}
 use Rattle.settings.proofs.AnswerLaws.{written_next}
 use Rattle.settings.proofs.loading.played.Goals as goal
 
-pub loop-n-init : goal.loop-n-init
-unfolding setting_writes run
-loop-n-init c = (omega arith, refl)
-
-pub loop-n-preserved : goal.loop-n-preserved
-loop-n-preserved c =
-    let h : c.loop-n.n + 1 ≤ 106 = omega arith in (
-      h,
-      written_next _ _ _ _ _ _ _ _ c.loop-n.invariant.1 c.write-written.ensures.0
-          c.address.ensures c.word.ensures,
-    )
-
 pub returns : goal.returns
-unfolding load_calls
+unfolding load_calls setting_writes run
 returns c =
-    let e : c.loop-n.n ≡ 106 = omega arith in
-    rw (← e) c.loop-n.invariant.1
+    let b = c.args.store.now in
+    let next = λ (t : State) (n : ℕ). (write_of t (setting_address n) (word_in b c.args.k (3 + n))).state in
+    fold_from_yields_List _ next _ _ c.fold.ensures.ran (YieldsList-from_range 0 106 106 refl refl) (λ t n u f h. search rules)
+    ∙ fold-to next (λ n. run c.args.s (setting_writes b c.args.k n)) (λ n. written_next c.args.s b c.args.k n) 106

@@ -1,7 +1,5 @@
-use borrow.Author.Rules.{rules}
 use native.Mathlib.Omega.{arith}
 use mathlib.Core.Path.{◌≡◌, refl}
-use Prim.Native.Nat.{◌-◌}
 use Rattle.tick.specs.Ready.{pending_below}
 use Rattle.tick.proofs.ready.low_half.Goals as goal
 
@@ -10,7 +8,7 @@ unfolding pending_below
 loop-c-init c = (omega arith, refl)
 
 pub marked-w-requires : goal.marked-w-requires
-marked-w-requires c = (search rules, omega arith, c.loop-c.invariant.1)
+marked-w-requires c = c.loop-c.invariant.1
 
 pub loop-c-preserved : goal.loop-c-preserved
 loop-c-preserved c = (omega arith, c.marked-w.ensures)

@@ -5,8 +5,8 @@ use Rattle.tick.proofs.ready.marked.Goals as goal
 
 pub returns-then-pends : goal.returns-then-pends
 returns-then-pends c =
-    c.with_bit.ensures ∙ rw (c.requires.2, add-one) (with-bit-more _ _ (sym c.pends.ensures ∙ c.if-pends.true))
+    c.with_bit.ensures ∙ rw (c.requires, add-one) (with-bit-more _ _ (sym c.pends.ensures ∙ c.if-pends.true))
 
-pub returns : goal.returns
-returns c =
-    rw (c.requires.2, add-one) (no-bit-more _ _ (sym c.pends.ensures ∙ c.if-pends.false))
+pub returns-else-pends : goal.returns-else-pends
+returns-else-pends c =
+    rw (c.requires, add-one) (no-bit-more _ _ (sym c.pends.ensures ∙ c.if-pends.false))

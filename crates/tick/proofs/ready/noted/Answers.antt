@@ -1,15 +1,20 @@
+use mathlib.Core.Logic.{◌≢◌}
+use native.Mathlib.Omega.{arith}
 use borrow.Author.Tests.{ne_eqb}
 use Rattle.tick.specs.Ready.{noted}
 use Rattle.tick.proofs.ready.noted.Goals as goal
 
-pub returns-then-level-eq3 : goal.returns-then-level-eq3
+pub returns-in-3 : goal.returns-in-3
 unfolding noted
-returns-then-level-eq3 c = rw (c.with_bit.ensures, c.if-level-eq3.true)
+returns-in-3 c = rw (c.with_bit.ensures, c.in-3.is)
 
-pub returns-then-level-eq2 : goal.returns-then-level-eq2
+pub returns-in-2 : goal.returns-in-2
 unfolding noted
-returns-then-level-eq2 c = rw (c.with_bit-then-level-eq2.ensures, ne_eqb _ 3 c.if-level-eq3.false, c.if-level-eq2.true)
+returns-in-2 c = rw (c.with_bit-in-2.ensures, c.in-2.is)
 
-pub returns : goal.returns
+pub returns-in_default : goal.returns-in_default
 unfolding noted
-returns c = rw (c.with_bit-2.ensures, ne_eqb _ 3 c.if-level-eq3.false, ne_eqb _ 2 c.if-level-eq2.false)
+returns-in_default c =
+    let two : c.args.level ≢ 2 = λ e. omega arith in
+    let three : c.args.level ≢ 3 = λ e. omega arith in
+    rw (c.with_bit-in_default.ensures, ne_eqb _ 3 three, ne_eqb _ 2 two)

@@ -1,14 +1,12 @@
-use borrow.Author.Rules.{rules}
 use native.Mathlib.Omega.{arith}
 use mathlib.Core.Path.{◌≡◌}
-use Prim.Native.Nat.{◌-◌}
 use Rattle.tick.proofs.ready.pending_word.Goals as goal
 
 pub loop-c-init : goal.loop-c-init
 loop-c-init c = (omega arith, c.low_half-w.ensures)
 
 pub marked-w-requires : goal.marked-w-requires
-marked-w-requires c = (search rules, omega arith, c.loop-c.invariant.1)
+marked-w-requires c = c.loop-c.invariant.1
 
 pub loop-c-preserved : goal.loop-c-preserved
 loop-c-preserved c = (omega arith, c.marked-w.ensures)

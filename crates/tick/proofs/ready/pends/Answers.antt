@@ -1,4 +1,3 @@
-use native.Mathlib.Omega.{arith}
 use borrow.Author.Tests.{le-leb, lt-leb}
 use Rattle.tick.specs.Ready.{pends}
 use Rattle.tick.proofs.ready.pends.Goals as goal
@@ -7,6 +6,6 @@ pub returns-then-request-ge2 : goal.returns-then-request-ge2
 unfolding pends
 returns-then-request-ge2 c = rw (← c.request.ensures, le-leb 2 _ c.if-request-ge2.true)
 
-pub returns : goal.returns
+pub returns-else-request-ge2 : goal.returns-else-request-ge2
 unfolding pends
-returns c = rw (← c.request.ensures, lt-leb 2 c.request.result (omega arith), c.is_matched.ensures, c.phase.ensures)
+returns-else-request-ge2 c = rw (← c.request.ensures, lt-leb 2 _ c.if-request-ge2.false, c.is_matched.ensures, c.phase.ensures)

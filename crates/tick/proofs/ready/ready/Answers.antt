@@ -1,7 +1,5 @@
-use borrow.Author.Rules.{rules}
 use native.Mathlib.Omega.{arith}
 use mathlib.Core.Path.{refl, sym, ◌∙◌}
-use Prim.Native.Nat.{◌-◌}
 use lib.Count.{trailing_le}
 use Rattle.pack.specs.Packing.{state_in}
 use Rattle.tick.specs.Ready.{ready_below}
@@ -18,11 +16,17 @@ overflow_cast-k c = omega (arith, trailing_le 16 c.loop-rest.rest)
 pub overflow_add-c : goal.overflow_add-c
 overflow_add-c c = omega (arith, trailing_le 16 c.loop-rest.rest)
 
+pub invariant_of-asked : goal.invariant_of-asked
+invariant_of-asked c =
+    let l = c.loop-rest in
+    let n = next-set (state_in c.args.s.now) l.c l.rest l.invariant.0 l.invariant.1 (omega arith) in
+    record { in_range = n.0 }
+
 pub asked-w-requires : goal.asked-w-requires
 asked-w-requires c =
     let l = c.loop-rest in
     let n = next-set (state_in c.args.s.now) l.c l.rest l.invariant.0 l.invariant.1 (omega arith) in
-    (search rules, n.0, n.1)
+    n.1
 
 pub overflow_shr-rest : goal.overflow_shr-rest
 overflow_shr-rest c =

@@ -1,12 +1,6 @@
-use Prim.Native.Nat.{◌-◌, ◌≤◌}
-use mathlib.Core.Path.{◌≡◌}
-use lib.ListN.{length}
 use Rattle.text.specs.Placing.{Wrote}
 use Rattle.wave.specs.Header.{declarations}
 use Rattle.wave.proofs.declare.channels.Given as goal
 
 abbrev pub invariant-loop-c : goal.invariant-loop-c
-invariant-loop-c l = (l.c ≤ 16) × (length l.out ≡ length l.initial.out) × Wrote l.initial.out l.at (declarations l.c l.width l.first l.name) l.next l.out
-
-abbrev pub decreases-loop-c : goal.decreases-loop-c
-decreases-loop-c l = 16 - l.c
+invariant-loop-c l = Wrote l.initial.page (declarations l.c l.width l.first l.name) l.page

@@ -6,7 +6,7 @@ use Rattle.wave.proofs.declare.signal.Goals as goal
 pub returns : goal.returns
 unfolding declaration ascii
 returns c =
-    also c.bytes-a.ensures
-    (also c.decimal-b.ensures
-    (also c.bytes-d.ensures
-    (also c.bytes-e.ensures (also c.decimal-f.ensures c.bytes.ensures))))
+    also c.text.ensures
+    (also c.decimal.ensures
+    (also c.text-2.ensures
+    (also c.text-3.ensures (also c.decimal-2.ensures c.text-4.ensures))))

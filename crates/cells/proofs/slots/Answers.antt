@@ -1,7 +1,0 @@
-use mathlib.Core.Path.{refl}
-use Rattle.pack.specs.Packing.{state_in}
-use Rattle.cells.proofs.slots.Goals as goal
-
-pub returns : goal.returns
-unfolding state_in
-returns c = refl
