@@ -6,9 +6,9 @@ use Rattle.motor.specs.declared.Phase.{Phase}
 use Rattle.motor.specs.declared.Phase.TheVariants.{Resting, Requested, Armed, Matched}
 use Rattle.motor.specs.Group.{bound}
 
-pub bound-else : (p : Phase) → p ≢ Resting → bound p ≡ true
+pub bound_else : (p : Phase) → p ≢ Resting → bound p ≡ true
 unfolding bound
-bound-else Resting n = absurd (n refl)
-bound-else Requested n = refl
-bound-else (Armed t) n = refl
-bound-else (Matched t r) n = refl
+bound_else Resting n = absurd (n refl)
+bound_else Requested n = refl
+bound_else (Armed t) n = refl
+bound_else (Matched t r) n = refl

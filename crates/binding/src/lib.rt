@@ -12,6 +12,7 @@ use motor::Phase;
 use pack::{ChannelNumber, Words};
 
 // The group of the primary c is bound.
+#[tactic(auto, using(crate::proofs::Reaching::bound_else), unfolding(unit::specs::TheUnit::stepping, motor::specs::Group::bound))]
 pub fn stepping(s: &Words, c: ChannelNumber) -> bool
     ensures { result ≡ stepping (state_in s.now) c.number }
 {

@@ -1,12 +1,13 @@
 -- Every deed that the gate makes is good: what it changes is there.
 use Prim.Native.Nat.{ℕ, ◌-◌, ◌*◌, ◌≤◌, ◌%◌}
 use mathlib.Core.Bool.{◌&&◌}
-use mathlib.Core.Path.{◌≡◌}
+use mathlib.Core.Path.{◌≡◌, subst}
 use native.Mathlib.Omega.{arith}
 use lib.Dec.{eqb, leb}
 use borrow.Author.Tests.{leb-true}
 use Rattle.words.proofs.ChoiceLaws.{pick-cases, ask-cases, and_left}
 use Rattle.unit.specs.declared.State.{State}
+use Rattle.unit.specs.declared.Deed.{Deed}
 use Rattle.unit.specs.declared.Deed.TheVariants.{Request}
 use Rattle.unit.specs.declared.Place.{Place}
 use Rattle.unit.specs.declared.Place.TheVariants.{AtRegister, AtWord, AtLate, Nowhere}
@@ -43,3 +44,7 @@ place-asked s Nowhere v h = tt
 
 pub gate-good : (s : State) (a v : ℕ) → VerdictGood (gate s a v)
 gate-good s a v = rw (gate-place s a v) (place-asked s (place a) v (place-good a))
+
+pub deed-good : (s : State) (a v : ℕ) (d : Deed) → gate s a v ≡ Ok d → DeedGood d
+unfolding VerdictGood
+deed-good s a v d e = subst VerdictGood e (gate-good s a v)

@@ -68,6 +68,7 @@ fn done(s: &mut Words, d: Deed)
 }
 
 // A refused write leaves the words as they were.
+#[tactic(auto, unfolding(unit::specs::Calls::write_of, unit::specs::Calls::answered_by, unit::specs::Answers::answer_number, unit::specs::Answers::verdict_number))]
 pub fn write(s: &mut Words, address: u16, value: u16) -> Result<(), Refusal>
     ensures answer { result ≡ (write_of (state_in s.old) address value).answer }
     ensures state { state_in s.new ≡ (write_of (state_in s.old) address value).state }

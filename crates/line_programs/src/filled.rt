@@ -1,5 +1,5 @@
 // A lent buffer that is filled from the front.
-ghost use Rattle.std.specs.Prelude.{◌≡◌, ◌≤◌, ◌-◌, length};
+ghost use Rattle.std.specs.Prelude.{◌≡◌, ◌==◌, ◌≤◌, ◌+◌, ◌-◌, ◌++◌, length, min, take, drop};
 
 use crate::Program;
 
@@ -11,11 +11,15 @@ pub struct Filled<'a> {
 }
 
 impl<'a> Filled<'a> {
-    pub fn new(bytes: &'a mut [u8]) -> Filled<'a> {
+    pub fn new(bytes: &'a mut [u8]) -> Filled<'a>
+        ensures empty { result.count ≡ 0 }
+    {
         Filled { bytes, count: 0 }
     }
 
-    pub fn is_empty(&self) -> bool {
+    pub fn is_empty(&self) -> bool
+        ensures { result ≡ (self.now.count == 0) }
+    {
         self.count == 0
     }
 
@@ -25,19 +29,29 @@ impl<'a> Filled<'a> {
         self.bytes.len() - self.count
     }
 
-    pub fn filled(&self) -> &[u8] {
+    pub fn filled(&self) -> &[u8]
+        ensures { result.now ≡ take self.now.count self.now.bytes.now }
+    {
         &self.bytes[..self.count]
     }
 
-    pub fn clear(&mut self) {
+    pub fn clear(&mut self)
+        ensures { self.new.count ≡ 0 }
+    {
         self.count = 0;
     }
 
     // As many of the bytes as there is room for.
-    pub fn put(&mut self, more: &[u8]) {
+    pub fn put(&mut self, more: &[u8])
+        ensures count { self.new.count ≡ min (self.old.count + length more.now) (length self.old.bytes.now) }
+        ensures text { take self.new.count self.new.bytes.now
+            ≡ take (length self.old.bytes.now) (take self.old.count self.old.bytes.now ++ more.now) }
+        ensures rest { drop self.new.count self.new.bytes.now ≡ drop self.new.count self.old.bytes.now }
+    {
         let n = more.len().min(self.room());
-        self.bytes[self.count..][..n].copy_from_slice(&more[..n]);
-        self.count += n;
+        let end = self.count + n;
+        self.bytes[self.count..end].copy_from_slice(&more[..n]);
+        self.count = end;
     }
 
     // The program's reply to a line, as much of it as there is room for.

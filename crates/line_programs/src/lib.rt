@@ -1,7 +1,7 @@
 // Programs that answer line after line: the lines come from a reader in blocks, the replies go to a writer in blocks.
 #![tactic(auto)]
 
-ghost use Rattle.std.specs.Prelude.{◌≤◌, ◌<◌, ◌^◌, length, OnOk};
+ghost use Rattle.std.specs.Prelude.{◌≡◌, ◌==◌, ◌≤◌, ◌<◌, ◌^◌, length, OnOk};
 ghost use Rattle.std.specs.Io.KnownBytes.{IsAtEnd};
 
 use filled::Filled;
@@ -57,13 +57,22 @@ pub fn run<const BLOCK: usize, const KEPT: usize, const ROOM: usize, P: Program,
     Err(io::Error::from(ErrorKind::Other))
 }
 
+fn is_line_end(b: &u8) -> bool
+    ensures { result ≡ (b.now == 10) }
+{
+    *b == b'\n'
+}
+
 impl<'a, P: Program, W: Write> Session<'a, P, W> {
     fn new(
         program: &'a mut P,
         to: &'a mut W,
         line: &'a mut [u8],
         replies: &'a mut [u8],
-    ) -> Session<'a, P, W> {
+    ) -> Session<'a, P, W>
+        ensures no_line { result.line.count ≡ 0 }
+        ensures no_replies { result.replies.count ≡ 0 }
+    {
         let line = Filled::new(line);
         let replies = Filled::new(replies);
         Session {
@@ -76,7 +85,7 @@ impl<'a, P: Program, W: Write> Session<'a, P, W> {
 
     // The lines of a block, and then the output is written: someone may wait for it before the next block.
     fn block(&mut self, block: &[u8]) -> io::Result<()> {
-        for piece in block.split_inclusive(|b| *b == b'\n') {
+        for piece in block.split_inclusive(is_line_end) {
             match piece.strip_suffix(b"\n") {
                 Some(end) => {
                     self.line.put(end);
@@ -96,20 +105,25 @@ impl<'a, P: Program, W: Write> Session<'a, P, W> {
         self.write()
     }
 
-    // The reply to the line goes behind what waits; where it might not fit, that is written first.
-    fn line_done(&mut self) -> io::Result<()> {
-        if self.replies.room() < P::LONGEST {
-            self.write()?;
-        }
+    // The reply to the line goes behind what waits; where the next one might not fit behind it, that is written.
+    fn line_done(&mut self) -> io::Result<()>
+        ensures no_line { self.new.line.count ≡ 0 }
+    {
         self.replies.put_reply(self.program, self.line.filled());
         self.line.clear();
+        if self.replies.room() < P::LONGEST {
+            return self.write();
+        }
         Ok(())
     }
 
-    // What waits is written.
-    fn write(&mut self) -> io::Result<()> {
-        self.to.write_all(self.replies.filled())?;
+    // What waits is written, and waits no more, whether that fails or not.
+    fn write(&mut self) -> io::Result<()>
+        ensures same_line { self.new.line ≡ self.old.line }
+        ensures no_replies { self.new.replies.count ≡ 0 }
+    {
+        let outcome = self.to.write_all(self.replies.filled());
         self.replies.clear();
-        Ok(())
+        outcome
     }
 }

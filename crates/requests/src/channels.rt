@@ -84,10 +84,12 @@ pub fn ask_channels(s: &mut Words, a: u16, v: u16) -> Result<(), Refusal>
     ensures { told result (state_in s.new) ≡ ask_channels 8 a v (state_in s.old) }
 {
     for c in a..a + 8 {
-        let channel = ChannelNumber { number: c };
         let r = bitfield::pair(v, c);
-        ask_channel(s, channel, r)?;
-        binding::requested(s, channel, r);
+        if 2 <= r {
+            let channel = ChannelNumber { number: c };
+            ask_channel(s, channel, r)?;
+            binding::requested(s, channel, r);
+        }
     }
     Ok(())
 }

@@ -31,16 +31,20 @@ fn all_free(s: State) -> bool
     )
 }
 
-// One ordinary write after another, in the order of the block.
+// One ordinary write after another, in the order of the block, on words: a state by value would be laid in words for each.
 fn played(s: State, store: &[u8], k: u8) -> State
     ensures { result ≡ run s (load_calls store.now k) }
 {
-    (0..SETTINGS).fold(
-        s,
-        |s, n|
-            requires { n < 106 }
-        { tpu::write(s, layout::address(n), blocks::word(store, k, FIRST + n)).state },
-    )
+    let mut words = [0; pack::layout::WORDS];
+    pack::pack(s, &mut words);
+    for n in 0..SETTINGS {
+        let _ = deeds::write(
+            &mut words,
+            layout::address(n),
+            blocks::word(store, k, FIRST + n),
+        );
+    }
+    pack::unpack(&words)
 }
 
 #[tactic(auto, using(words::proofs::ChoiceLaws::goes_on, words::proofs::ChoiceLaws::stops), unfolding(keeping::specs::Keeping::load_from))]

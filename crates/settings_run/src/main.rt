@@ -1,6 +1,8 @@
 // The settings run: saves and loads of the stores in data/, by lines from standard input. tests/settings has how its files are made.
 #![tactic(auto)]
 
+ghost use Rattle.std.specs.Prelude.{◌≡◌};
+
 use arrayvec::ArrayVec;
 use keeping::Which;
 use script::Bench;
@@ -73,14 +75,18 @@ impl Session {
     }
 
     // A load cannot change the store, which is lent to be read only.
-    fn load(&mut self, rt: &impl Print, which: Which) -> io::Result<()> {
+    fn load(&mut self, rt: &impl Print, which: Which) -> io::Result<()>
+        ensures same_store { self.new.store ≡ self.old.store }
+    {
         let l = settings::load(self.bench.state, which, self.store.bytes());
         self.bench.state = l.state;
         show::kept(rt, 'L', l.answer)
     }
 
     // Any other line is one of the script program.
-    fn reply(&mut self, rt: &impl Print, line: &[u8]) -> io::Result<()> {
+    fn reply(&mut self, rt: &impl Print, line: &[u8]) -> io::Result<()>
+        ensures same_store { self.new.store ≡ self.old.store }
+    {
         let mut out = [0u8; script::MAX_REPLY];
         let n = self.bench.reply(line, &mut out);
         rt.write_all(&out[..n])

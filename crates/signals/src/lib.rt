@@ -14,15 +14,26 @@ use unit::State;
 pub fn values(page: &mut Page, old: Option<State>, s: State)
     ensures { Wrote page.old (values old s) page.new }
 {
-    let packed = old.map(words_of);
-    let old_words = packed.as_ref();
     let words = words_of(s);
-    pins(page, old.map(|o| o.pins), s.pins);
-    let old_tcr1 = old.map(|o| Some(o.timers.tcr1));
-    vector_value(page, old_tcr1, Some(s.timers.tcr1), b'!');
-    positions(page, old_words, &words);
-    let old_line = old_words.map(|o| deeds::interrupt_line(o));
-    wire_value(page, old_line, deeds::interrupt_line(&words), b'"');
+    match old {
+        Some(o) => values_in(page, Some(&words_of(o)), &words),
+        None => values_in(page, None, &words),
+    }
+}
+
+// The same of the states that words hold: read in place, since a state is dear to copy.
+fn values_in(page: &mut Page, old: Option<&Words>, words: &Words)
+    ensures { Wrote page.old (values (option_map (λ o. state_in o.now) old.entry) (state_in words.now)) page.new }
+{
+    let old_pins = old.map(|o| cells::pins(o));
+    let new_pins = cells::pins(words);
+    pins(page, old_pins, new_pins);
+    let old_tcr1 = old.map(|o| Some(cells::timers(o).tcr1));
+    let timers = cells::timers(words);
+    vector_value(page, old_tcr1, Some(timers.tcr1), b'!');
+    positions(page, old, words);
+    let old_line = old.map(|o| deeds::interrupt_line(o));
+    wire_value(page, old_line, deeds::interrupt_line(words), b'"');
 }
 
 fn words_of(s: State) -> Words

@@ -4,6 +4,10 @@
 use drawing::Recorder;
 use line_programs::Program;
 use std::io;
+use std::io::Read;
+
+// How much of the input is read at once.
+const BLOCK: usize = 65536;
 
 // The longest drawing, and room for short ones that wait, so that the output is written seldom.
 const ROOM: usize = drawing::MAX_DRAWN + 65536;
@@ -26,13 +30,21 @@ impl Program for Waveform {
 fn main(rt: HostRuntime) -> io::Result<()> {
     let mut header = [0u8; 4096];
     let n = wave::header(&mut header);
-    rt.write_all(&header[..n])?;
+    if let Err(e) = rt.write_all(&header[..n]) {
+        return not_begun(&mut rt.stdin(), e);
+    }
     let mut waveform = Waveform {
         recorder: Recorder::RESET,
     };
-    line_programs::run::<65536, 16, ROOM, _, _, _>(
+    line_programs::run::<BLOCK, 16, ROOM, _, _, _>(
         &mut waveform,
         &mut rt.stdin(),
         &mut io::writer(&rt),
     )
+}
+
+// The header cannot be written. A block is read all the same, since what is wrong with the input is told first.
+fn not_begun(from: &mut impl Read, e: io::Error) -> io::Result<()> {
+    from.read(&mut [0u8; BLOCK])?;
+    Err(e)
 }

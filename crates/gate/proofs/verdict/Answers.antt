@@ -1,9 +1,6 @@
-use Prim.Native.Nat.{ℕ}
-use mathlib.Core.Logic.{⊎_elim}
-use Rattle.unit.specs.declared.Place.TheVariants.{AtLate, Nowhere}
 use Rattle.std.proofs.Common.{Err}
 use Rattle.unit.specs.declared.Refusal.TheVariants.{NoSuchAddress}
-use mathlib.Core.Path.{◌≡◌, sym, subst, ◌∙◌}
+use mathlib.Core.Path.{◌≡◌, refl, sym, subst, ◌∙◌}
 use Rattle.unit.proofs.Places.{gate-place, PlaceGood, place-good}
 use Rattle.unit.specs.Gate.{ask_place, gate}
 use Rattle.pack.specs.Packing.{state_in}
@@ -37,7 +34,11 @@ returns-in-AtWord c =
 pub returns-in-AtLate : goal.returns-in-AtLate
 unfolding ask_place
 returns-in-AtLate c =
-    let p = c.place.ensures in
-    let e : Err NoSuchAddress ≡ gate (state_in c.args.s.now) c.args.a c.args.v =
-    ⊎_elim (λ (x : (n : ℕ) × (c.place.result ≡ AtLate n)). rw (gate-place, ← p, x.1)) (λ (x : c.place.result ≡ Nowhere). rw (gate-place, ← p, x)) c.in-AtLate.is in
+    let e : Err NoSuchAddress ≡ gate (state_in c.args.s.now) c.args.a c.args.v = rw (gate-place, ← c.place.ensures, c.in-AtLate.is) refl in
+    record { verdict = e; number = numbered _ _ _ _ e }
+
+pub returns-in-Nowhere : goal.returns-in-Nowhere
+unfolding ask_place
+returns-in-Nowhere c =
+    let e : Err NoSuchAddress ≡ gate (state_in c.args.s.now) c.args.a c.args.v = rw (gate-place, ← c.place.ensures, c.in-Nowhere.is) refl in
     record { verdict = e; number = numbered _ _ _ _ e }

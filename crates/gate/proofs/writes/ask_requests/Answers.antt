@@ -1,4 +1,3 @@
-use mathlib.Core.Path.{sym, subst}
 use Rattle.std.proofs.lemmas.Result.{err_from_is_err_and}
 use Rattle.unit.specs.Gate.{verdict_of}
 use Rattle.gate.proofs.writes.ask_requests.Goals as goal
