@@ -62,6 +62,7 @@ fn bind_at_rest(s: &mut Words, c: ChannelNumber)
 }
 
 // What a taken request of channel c does: 2 initialise, 3 step, which binds a group at rest.
+#[tactic(auto, unfolding(unit::specs::Gate::requested))]
 pub fn requested(s: &mut Words, c: ChannelNumber, r: u16)
     ensures { state_in s.new ≡ requested (state_in s.old) c.number r }
 {

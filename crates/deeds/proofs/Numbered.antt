@@ -1,20 +1,16 @@
--- The number of an answer, and the word of a read.
+-- The number and the word of a read.
 use Prim.Native.Nat.{ℕ}
 use mathlib.Core.Bool.{Bool, true, false}
-use mathlib.Core.List.{List}
 use mathlib.Core.Path.{◌≡◌, refl, ap, ◌∙◌}
 use Rattle.words.specs.Choice.{pick, ask}
 use Rattle.unit.specs.declared.State.{State}
-use Rattle.unit.specs.Gate.{place, Reads, in_list, gate}
-use Rattle.unit.specs.Calls.{word_at, read_of, answered_by, write_of}
-use Rattle.unit.specs.Answers.{reading_number, reading_word, verdict_number, answer_number}
-use Rattle.pack.specs.Packing.{state_in}
+use Rattle.unit.specs.Gate.{place, Reads, in_list}
+use Rattle.unit.specs.Calls.{word_at, read_of}
+use Rattle.unit.specs.Answers.{reading_number, reading_word}
 use Rattle.std.specs.Prelude.{Err, Ok}
-use Rattle.unit.specs.Refusals.{refusal_number, Answer, Reading, Verdict}
+use Rattle.unit.specs.Refusals.{refusal_number, Reading}
 use Rattle.unit.specs.declared.Refusal.{Refusal}
 use Rattle.unit.specs.declared.Refusal.TheVariants.{NoSuchAddress}
-
--- ---- read
 
 module _ (n : Refusal) (w : ℕ) where
   asked-number : (q : Bool) → reading_number (ask q (Err n) (Ok w)) ≡ pick q 0 (refusal_number n)
@@ -37,16 +33,3 @@ unfolding read_of
 read-numbered s a r e =
     let w = word_at s (place a) in
     (e, ap reading_number e ∙ asked-number NoSuchAddress w (in_list Reads a), ap reading_word e ∙ asked-word NoSuchAddress w (in_list Reads a))
-
--- ---- write
-
-answered-number : (v : Verdict) (s : State) → answer_number (answered_by v s).answer ≡ verdict_number v
-unfolding answered_by answer_number verdict_number
-answered-number (Ok d) s = refl
-answered-number (Err n) s = refl
-
--- an answer, with the words after it, by what the gate said
-pub write-told : (s : State) (a v : ℕ) (k : Verdict) (r : Answer) (t : List ℕ) → k ≡ gate s a v → r ≡ (answered_by k s).answer → state_in t ≡ (answered_by k s).state
-    → (r ≡ (write_of s a v).answer) × (state_in t ≡ (write_of s a v).state) × (answer_number r ≡ verdict_number (gate s a v))
-unfolding write_of
-write-told s a v k r t e x h = rw (← e) (x, h, ap answer_number x ∙ answered-number k s)

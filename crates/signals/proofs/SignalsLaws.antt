@@ -1,7 +1,7 @@
 -- A bit of a word, and as a number; and what `map` makes of an option.
-use Rattle.std.proofs.Common.{◌≡◌, ℕ, ◌%◌, ◌<◌, Bool, true, false, Bor, Option, Some, None, option_map, refl, ap, arith}
+use Rattle.std.proofs.Common.{◌≡◌, ℕ, ◌%◌, ◌<◌, Bool, true, false, Option, Some, None, option_map, refl, ap, arith}
 use Rattle.std.specs.Int.{from_bool}
-use Rattle.std.specs.Option.{MatchOption, IsSomeAnd, option_copied}
+use Rattle.std.specs.Option.{MatchOption, IsSomeAnd}
 use Rattle.words.specs.Field.{bit_of, bit_value}
 
 pub level : (on : Bool) → from_bool on ≡ bit_value on
@@ -18,16 +18,6 @@ mapped None r f gave h e = e
 mapped (Some x) (Some y) f gave h p = ap Some (h x y p)
 mapped (Some x) None f gave h p = absurd p
 
--- and what comes back of it by the other way
-pub came_back : {A B : Type 0} (o : Option A) (r : Option B) (back : B → A) (gave : A → B → Type 0) → ((x : A) (y : B) → gave x y → back y ≡ x) → MatchOption o (r ≡ None) (λ x. IsSomeAnd r (gave x)) → option_map back r ≡ o
-came_back None r back gave h e = ap (option_map back) e
-came_back (Some x) (Some y) back gave h p = ap Some (h x y p)
-came_back (Some x) None back gave h p = absurd p
-
 pub fused : {A B C : Type 0} (f : A → B) (g : B → C) (o : Option A) → option_map g (option_map f o) ≡ option_map (λ x. g (f x)) o
 fused f g None = refl
 fused f g (Some x) = refl
-
-pub lent : {A B : Type 0} (f : A → B) (o : Option (Bor A)) → option_map (λ x. f x.now) o ≡ option_map f (option_copied o)
-lent f None = refl
-lent f (Some x) = refl
